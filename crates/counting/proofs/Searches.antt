@@ -24,9 +24,10 @@ pub any-is : (t : ℕ → Bool) (n k : ℕ) → k < n → t k ≡ true → any t
 unfolding any
 any-is t zero k l h = absurd (omega arith)
 any-is t (suc n) k l h =
-    elim (cases-eq k n)
-      [ inl e ↦ (let g : t n ≡ true = rw e at h in rw g)
-      | inr e ↦ or-right (t n) (any t n) (any-is t n k (omega arith) h) ]
+    elim (cases-eq k n) [
+      | inl e ↦ (let g : t n ≡ true = rw e at h in rw g)
+      | inr e ↦ or-right (t n) (any t n) (any-is t n k (omega arith) h)
+    ]
 
 pub any-none : (t : ℕ → Bool) (n : ℕ) → ((k : ℕ) → k < n → t k ≡ false) → any t n ≡ false
 unfolding any
@@ -38,9 +39,10 @@ pub any-found : (t : ℕ → Bool) (n : ℕ) → any t n ≡ true → (k : ℕ) 
 unfolding any
 any-found t zero h = absurd (both-ways false refl h)
 any-found t (suc n) h =
-    elim (cases-bool (t n))
-      [ inl e ↦ (n, omega arith, e)
-      | inr e ↦ let (k, l, f) = any-found t n (rw e at h) in (k, omega arith, f) ]
+    elim (cases-bool (t n)) [
+      | inl e ↦ (n, omega arith, e)
+      | inr e ↦ let (k, l, f) = any-found t n (rw e at h) in (k, omega arith, f)
+    ]
 
 pub all-more : (t : ℕ → Bool) (n : ℕ) → all t (n + 1) ≡ (t n && all t n)
 unfolding all
@@ -76,20 +78,23 @@ least-found t (suc n) h = grind (arith, tells, least-below t n, least-found t n,
 -- what a scan knows is the least
 pub least-is : (t : ℕ → Bool) (n r : ℕ) → r < n → ((k : ℕ) → k < r → t k ≡ false) → t r ≡ true → r ≡ least t n
 least-is t n r l below here =
-    elim (cases-order r (least t n))
-      [ inl e ↦ e
+    elim (cases-order r (least t n)) [
+      | inl e ↦ e
       | inr (inl k) ↦ absurd (both-ways (t r) (least-below t n r k) here)
-      | inr (inr k) ↦ absurd (both-ways (t (least t n)) (below _ k) (least-found t n (omega arith))) ]
+      | inr (inr k) ↦ absurd (both-ways (t (least t n)) (below _ k) (least-found t n (omega arith)))
+    ]
 
 pub least-none : (t : ℕ → Bool) (n : ℕ) → ((k : ℕ) → k < n → t k ≡ false) → n ≡ least t n
 least-none t n h =
-    elim (cases-lt (least t n) n)
-      [ inl l ↦ absurd (both-ways (t (least t n)) (h _ l) (least-found t n l))
-      | inr l ↦ omega (arith, least-le t n) ]
+    elim (cases-lt (least t n) n) [
+      | inl l ↦ absurd (both-ways (t (least t n)) (h _ l) (least-found t n l))
+      | inr l ↦ omega (arith, least-le t n)
+    ]
 
 -- only what the test says below n counts
 pub least-ext : (s t : ℕ → Bool) (n : ℕ) → ((k : ℕ) → k < n → s k ≡ t k) → least s n ≡ least t n
 least-ext s t n h =
-    elim (cases-lt (least s n) n)
-      [ inl l ↦ least-is t n (least s n) l (λ k b. sym (h k (omega arith)) ∙ least-below s n k b) (sym (h _ l) ∙ least-found s n l)
-      | inr l ↦ (let e : n ≡ least s n = omega (arith, least-le s n) in sym e ∙ least-none t n (λ k b. sym (h k b) ∙ least-below s n k (omega arith))) ]
+    elim (cases-lt (least s n) n) [
+      | inl l ↦ least-is t n (least s n) l (λ k b. sym (h k (omega arith)) ∙ least-below s n k b) (sym (h _ l) ∙ least-found s n l)
+      | inr l ↦ (let e : n ≡ least s n = omega (arith, least-le s n) in sym e ∙ least-none t n (λ k b. sym (h k b) ∙ least-below s n k (omega arith)))
+    ]

@@ -56,11 +56,13 @@ pub most-attained : (f : ℕ → ℕ) (n : ℕ) → (most f n ≡ 0) ⊎ ((k : �
 unfolding most
 most-attained f zero = inl refl
 most-attained f (suc n) =
-    elim (cases-lt (most f n) (f n))
-      [ inl l ↦ inr (n, omega arith, omega arith)
-      | inr l ↦ elim (most-attained f n)
-        [ inl z ↦ inl (omega arith)
-        | inr (k, lt, e) ↦ inr (k, omega arith, omega arith) ] ]
+    elim (cases-lt (most f n) (f n)) [
+      | inl l ↦ inr (n, omega arith, omega arith)
+      | inr l ↦ elim (most-attained f n) [
+        | inl z ↦ inl (omega arith)
+        | inr (k, lt, e) ↦ inr (k, omega arith, omega arith)
+      ]
+    ]
 
 -- one class more: a sum by class from the count of the class
 pub class-more : (nb : ℕ → Bool) (cls : ℕ → ℕ) (q : ℕ → ℕ) (c n : ℕ) →
@@ -70,18 +72,22 @@ unfolding sum
 class-more nb cls q c zero = omega arith
 class-more nb cls q c (suc n) =
     let ih = class-more nb cls q c n in
-    elim (cases-bool (nb n))
-      [ inl e ↦ elim (cases-eq (cls n) c)
-        [ inl f ↦ rw (e, f, eq-eqb c c refl, lt-ltb c (c + 1) (omega arith), le-ltb c c (omega arith)) (omega (arith, ih, mul-add (q c) 1 (count (λ m. nb m && eqb (cls m) c) n)))
-        | inr f ↦ elim (cases-lt (cls n) c)
-          [ inl l ↦ rw (e, ne-eqb (cls n) c f, lt-ltb (cls n) (c + 1) (omega arith), lt-ltb (cls n) c l) (omega (arith, ih))
-          | inr l ↦ rw (e, ne-eqb (cls n) c f, le-ltb (cls n) (c + 1) (omega arith), le-ltb (cls n) c l) (omega (arith, ih)) ] ]
-      | inr e ↦ rw e (omega (arith, ih)) ]
+    elim (cases-bool (nb n)) [
+      | inl e ↦ elim (cases-eq (cls n) c) [
+        | inl f ↦ rw (e, f, eq-eqb c c refl, lt-ltb c (c + 1) (omega arith), le-ltb c c (omega arith)) (omega (arith, ih, mul-add (q c) 1 (count (λ m. nb m && eqb (cls m) c) n)))
+        | inr f ↦ elim (cases-lt (cls n) c) [
+          | inl l ↦ rw (e, ne-eqb (cls n) c f, lt-ltb (cls n) (c + 1) (omega arith), lt-ltb (cls n) c l) (omega (arith, ih))
+          | inr l ↦ rw (e, ne-eqb (cls n) c f, le-ltb (cls n) (c + 1) (omega arith), le-ltb (cls n) c l) (omega (arith, ih))
+        ]
+      ]
+      | inr e ↦ rw e (omega (arith, ih))
+    ]
 
 pub none-below : (nb : ℕ → Bool) (cls q : ℕ → ℕ) (n : ℕ) → sum (λ m. cond (nb m && ltb (cls m) 0) (q (cls m)) 0) n ≡ 0
 unfolding sum
 none-below nb cls q zero = refl
 none-below nb cls q (suc n) =
-    elim (cases-bool (nb n))
-      [ inl e ↦ rw (e, le-ltb (cls n) 0 (omega arith)) (omega (arith, none-below nb cls q n))
-      | inr e ↦ rw e (omega (arith, none-below nb cls q n)) ]
+    elim (cases-bool (nb n)) [
+      | inl e ↦ rw (e, le-ltb (cls n) 0 (omega arith)) (omega (arith, none-below nb cls q n))
+      | inr e ↦ rw e (omega (arith, none-below nb cls q n))
+    ]
