@@ -79,7 +79,11 @@ impl BitFault {
             BitFault::Class(variable) => (5, variable),
             BitFault::Fill => (6, 0),
         };
-        Refusal { number, place, layer: Layer::Bits }
+        Refusal {
+            number,
+            place,
+            layer: Layer::Bits,
+        }
     }
 }
 
@@ -96,7 +100,11 @@ impl RowFault {
             RowFault::Target(row) => (11, row),
             RowFault::Last(row) => (12, row),
         };
-        Refusal { number, place, layer: Layer::Rows }
+        Refusal {
+            number,
+            place,
+            layer: Layer::Rows,
+        }
     }
 }
 
@@ -110,6 +118,10 @@ impl ProgramFault {
             ProgramFault::Unwritten(row) => (14, row),
             ProgramFault::Memory(part) => (15, part),
         };
-        Refusal { number, place, layer: Layer::Program }
+        Refusal {
+            number,
+            place,
+            layer: Layer::Program,
+        }
     }
 }

@@ -1,8 +1,9 @@
 -- Rows: what each opcode uses, reads and writes, and where it goes on.
-use mathlib.Core.Bool.{Bool, true, false, cond}
+use mathlib.Core.Bool.{Bool, true, false, cond, _&&_}
 use mathlib.Core.List.{List, [], _∷_, _++_}
 use Prim.Native.Nat.{ℕ, zero, suc, _*_, _^_}
-use lib.Dec.{ltb}
+use lib.Dec.{eqb, ltb}
+use lib.ListN.{getD}
 use Rattle.sets.specs.Sets.{union, single, when}
 use Rattle.rows.specs.declared.Op.{Op}
 use Rattle.rows.specs.declared.Op.the-variants.{End, Const, Copy, Add, Sub, And, Xor, Widen, Narrow, Input, Output, Jump, Less, Load, Store}
@@ -77,3 +78,53 @@ setOf (v ∷ vs) = union (setOf vs) (when (ltb v 448) (single v))
 -- the row that ends a run
 abbrev pub endRow : Row
 endRow = record { op = End; weight = 0; dclass = 0; aclass = 0; d = 0; a = 0; b = 0; target = 0; constant = 0; slot = 0 }
+
+-- the number of each opcode
+abbrev pub opcode : Op → ℕ
+opcode End = 0
+opcode Const = 1
+opcode Copy = 2
+opcode Add = 3
+opcode Sub = 4
+opcode And = 5
+opcode Xor = 6
+opcode Widen = 7
+opcode Narrow = 8
+opcode Input = 9
+opcode Output = 10
+opcode Jump = 11
+opcode Less = 12
+opcode Load = 14
+opcode Store = 15
+
+-- the opcode of a number in a source file, where those above 12 have no place
+abbrev pub opOf : ℕ → Op
+opOf n = getD (End ∷ Const ∷ Copy ∷ Add ∷ Sub ∷ And ∷ Xor ∷ Widen ∷ Narrow ∷ Input ∷ Output ∷ Jump ∷ Less ∷ []) n End
+
+-- whether the classes of d, a and b suit an opcode
+abbrev pub fits : Op → ℕ → ℕ → ℕ → Bool
+fits End d a b = true
+fits Const d a b = true
+fits Copy d a b = eqb d a
+fits Add d a b = eqb d a && eqb a b
+fits Sub d a b = eqb d a && eqb a b
+fits And d a b = eqb d a && eqb a b
+fits Xor d a b = eqb d a && eqb a b
+fits Widen d a b = ltb a d
+fits Narrow d a b = ltb d a
+fits Input d a b = true
+fits Output d a b = true
+fits Jump d a b = true
+fits Less d a b = eqb a b
+fits Load d a b = true
+fits Store d a b = true
+
+-- a source program: how many variables it has, their classes, its rows
+pub record Program : Type 0 where
+  pub vars : ℕ
+  pub classes : List ℕ
+  pub rows : List Row
+
+-- row i, or the row end past the last
+abbrev pub rowAt : List Row → ℕ → Row
+rowAt rows i = getD rows i endRow

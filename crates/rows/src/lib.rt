@@ -3,9 +3,10 @@ ghost use mathlib.Core.Bool.{cond};
 ghost use Prim.Native.Nat.{_≤_};
 ghost use lib.Dec.{ltb};
 ghost use lib.ListN.{take};
+ghost use Rattle.std.specs.declared.option.Option.the-variants.{Some, None};
 ghost use Rattle.sets.specs.Sets.{union, single, when};
 ghost use Rattle.sets.specs.Words.{members};
-ghost use Rattle.rows.specs.Rows.{shape as shapeOf, copies as copiesOf, reads as readsOf, writes as writesOf, next as nextOf, setOf};
+ghost use Rattle.rows.specs.Rows.{shape as shapeOf, copies as copiesOf, opcode as opcodeOf, opOf, fits as fitsOf, reads as readsOf, writes as writesOf, next as nextOf, setOf};
 use sets::NodeSet;
 
 // What a row does. Loads and stores stand in compiled code only.
@@ -40,25 +41,105 @@ pub struct Shape {
     pub falls: bool,
 }
 
-const END: Shape = Shape { d: false, a: false, b: false, constant: false, target: false, slot: false, falls: false };
+const END: Shape = Shape {
+    d: false,
+    a: false,
+    b: false,
+    constant: false,
+    target: false,
+    slot: false,
+    falls: false,
+};
 
-const CONST: Shape = Shape { d: true, a: false, b: false, constant: true, target: false, slot: false, falls: true };
+const CONST: Shape = Shape {
+    d: true,
+    a: false,
+    b: false,
+    constant: true,
+    target: false,
+    slot: false,
+    falls: true,
+};
 
-const UNARY: Shape = Shape { d: true, a: true, b: false, constant: false, target: false, slot: false, falls: true };
+const UNARY: Shape = Shape {
+    d: true,
+    a: true,
+    b: false,
+    constant: false,
+    target: false,
+    slot: false,
+    falls: true,
+};
 
-const BINARY: Shape = Shape { d: true, a: true, b: true, constant: false, target: false, slot: false, falls: true };
+const BINARY: Shape = Shape {
+    d: true,
+    a: true,
+    b: true,
+    constant: false,
+    target: false,
+    slot: false,
+    falls: true,
+};
 
-const INPUT: Shape = Shape { d: true, a: false, b: false, constant: false, target: false, slot: false, falls: true };
+const INPUT: Shape = Shape {
+    d: true,
+    a: false,
+    b: false,
+    constant: false,
+    target: false,
+    slot: false,
+    falls: true,
+};
 
-const OUTPUT: Shape = Shape { d: false, a: true, b: false, constant: false, target: false, slot: false, falls: true };
+const OUTPUT: Shape = Shape {
+    d: false,
+    a: true,
+    b: false,
+    constant: false,
+    target: false,
+    slot: false,
+    falls: true,
+};
 
-const JUMP: Shape = Shape { d: false, a: false, b: false, constant: false, target: true, slot: false, falls: false };
+const JUMP: Shape = Shape {
+    d: false,
+    a: false,
+    b: false,
+    constant: false,
+    target: true,
+    slot: false,
+    falls: false,
+};
 
-const LESS: Shape = Shape { d: false, a: true, b: true, constant: false, target: true, slot: false, falls: true };
+const LESS: Shape = Shape {
+    d: false,
+    a: true,
+    b: true,
+    constant: false,
+    target: true,
+    slot: false,
+    falls: true,
+};
 
-const LOAD: Shape = Shape { d: true, a: false, b: false, constant: false, target: false, slot: true, falls: true };
+const LOAD: Shape = Shape {
+    d: true,
+    a: false,
+    b: false,
+    constant: false,
+    target: false,
+    slot: true,
+    falls: true,
+};
 
-const STORE: Shape = Shape { d: false, a: true, b: false, constant: false, target: false, slot: true, falls: true };
+const STORE: Shape = Shape {
+    d: false,
+    a: true,
+    b: false,
+    constant: false,
+    target: false,
+    slot: true,
+    falls: true,
+};
 
 impl Op {
     pub fn shape(self) -> Shape
@@ -75,6 +156,65 @@ impl Op {
             Op::Less => LESS,
             Op::Load => LOAD,
             Op::Store => STORE,
+        }
+    }
+
+    pub fn opcode(self) -> u8
+        ensures { λ r. ⌜ r ≡ opcodeOf self ⌝ }
+    {
+        match self {
+            Op::End => 0,
+            Op::Const => 1,
+            Op::Copy => 2,
+            Op::Add => 3,
+            Op::Sub => 4,
+            Op::And => 5,
+            Op::Xor => 6,
+            Op::Widen => 7,
+            Op::Narrow => 8,
+            Op::Input => 9,
+            Op::Output => 10,
+            Op::Jump => 11,
+            Op::Less => 12,
+            Op::Load => 14,
+            Op::Store => 15,
+        }
+    }
+
+    // The opcode that a source file writes as n; None above 12, for loads and stores stand in no file.
+    pub fn in_source(n: u16) -> Option<Op>
+        ensures { λ r. ⌜ r ≡ cond (ltb 12 n) None (Some (opOf n)) ⌝ }
+    {
+        let op = match n {
+            0 => Op::End,
+            1 => Op::Const,
+            2 => Op::Copy,
+            3 => Op::Add,
+            4 => Op::Sub,
+            5 => Op::And,
+            6 => Op::Xor,
+            7 => Op::Widen,
+            8 => Op::Narrow,
+            9 => Op::Input,
+            10 => Op::Output,
+            11 => Op::Jump,
+            12 => Op::Less,
+            _ => return None,
+        };
+        Some(op)
+    }
+
+    // Whether the classes of d, a and b suit the opcode.
+    pub fn fits(self, d: u8, a: u8, b: u8) -> bool
+        ensures { λ r. ⌜ r ≡ fitsOf self d a b ⌝ }
+    {
+        match self {
+            Op::Copy => d == a,
+            Op::Add | Op::Sub | Op::And | Op::Xor => d == a && a == b,
+            Op::Widen => a < d,
+            Op::Narrow => d < a,
+            Op::Less => a == b,
+            _ => true,
         }
     }
 
@@ -109,8 +249,18 @@ pub struct Ways {
 }
 
 impl Row {
-    pub const END: Row =
-        Row { op: Op::End, weight: 0, dclass: 0, aclass: 0, d: 0, a: 0, b: 0, target: 0, constant: 0, slot: 0 };
+    pub const END: Row = Row {
+        op: Op::End,
+        weight: 0,
+        dclass: 0,
+        aclass: 0,
+        d: 0,
+        a: 0,
+        b: 0,
+        target: 0,
+        constant: 0,
+        slot: 0,
+    };
 
     pub fn reads(self) -> NodeSet
         ensures { λ r. ⌜ members r ≡ setOf (readsOf self) ⌝ }
@@ -134,10 +284,22 @@ impl Row {
         let below = i as usize + 1;
         let target = self.target as usize;
         match (shape.target, shape.falls) {
-            (true, true) => Ways { count: 2, rows: [target, below] },
-            (true, false) => Ways { count: 1, rows: [target, 0] },
-            (false, true) => Ways { count: 1, rows: [below, 0] },
-            (false, false) => Ways { count: 0, rows: [0, 0] },
+            (true, true) => Ways {
+                count: 2,
+                rows: [target, below],
+            },
+            (true, false) => Ways {
+                count: 1,
+                rows: [target, 0],
+            },
+            (false, true) => Ways {
+                count: 1,
+                rows: [below, 0],
+            },
+            (false, false) => Ways {
+                count: 0,
+                rows: [0, 0],
+            },
         }
     }
 }
