@@ -1,2 +1,5 @@
 pub mod Sweeping
-pub mod Kinds
+pub mod Laws
+pub mod Walking
+pub mod Memory
+pub mod Example

@@ -34,7 +34,7 @@ rows f = length (f .next)
 -- whether i stands in a list
 unfoldable pub holds : List ℕ → ℕ → Bool
 holds [] i = false
-holds (k ∷ ks) i = let r = holds ks i in eqb k i || r
+holds (k ∷ ks) i = let r = holds ks i in eqb i k || r
 
 -- the places, counted from j, of the lists that hold i
 unfoldable pub holders : ℕ → ℕ → List (List ℕ) → List ℕ

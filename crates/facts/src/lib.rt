@@ -48,43 +48,47 @@ pub trait FactKind {
 fn entering<K: FactKind>(kind: &K, i: usize) -> NodeSet
     ensures { λ x. ⌜ members x ≡ enters (K·FactKind .flow (now (kind .entry))) i ⌝ }
 {
-    let first = if kind.backward() { kind.rows().saturating_sub(1) } else { 0 };
+    let first = if kind.backward() {
+        kind.rows().saturating_sub(1)
+    } else {
+        0
+    };
     if i == first {
         return kind.entry();
     }
     kind.least()
 }
 
-fn fact_at<K: FactKind>(kind: &K, kept: &[NodeSet], j: usize) -> NodeSet
-    ensures { λ x. ⌜ members x ≡ at (K·FactKind .flow (now (kind .entry))) (setsOf (now (kept .entry))) j ⌝ }
+fn fact_at<K: FactKind>(kind: &K, facts: &[NodeSet], j: usize) -> NodeSet
+    ensures { λ x. ⌜ members x ≡ at (K·FactKind .flow (now (kind .entry))) (setsOf (now (facts .entry))) j ⌝ }
 {
-    if j < kept.len() {
-        return kept[j];
+    if j < facts.len() {
+        return facts[j];
     }
     kind.least()
 }
 
 // What comes to row i from the rows that it goes on to.
-fn from_ways<K: FactKind>(kind: &K, kept: &[NodeSet], i: usize) -> NodeSet
-    ensures { λ x. ⌜ members x ≡ gather (K·FactKind .flow (now (kind .entry)) .join) (at (K·FactKind .flow (now (kind .entry))) (setsOf (now (kept .entry)))) (enters (K·FactKind .flow (now (kind .entry))) i) (getD (K·FactKind .flow (now (kind .entry)) .next) i []) ⌝ }
+fn from_ways<K: FactKind>(kind: &K, facts: &[NodeSet], i: usize) -> NodeSet
+    ensures { λ x. ⌜ members x ≡ gather (K·FactKind .flow (now (kind .entry)) .join) (at (K·FactKind .flow (now (kind .entry))) (setsOf (now (facts .entry)))) (enters (K·FactKind .flow (now (kind .entry))) i) (getD (K·FactKind .flow (now (kind .entry)) .next) i []) ⌝ }
 {
     let mut all = entering(kind, i);
     for k in 0..kind.ways(i) {
         let j = kind.way(i, k);
-        let x = fact_at(kind, kept, j);
+        let x = fact_at(kind, facts, j);
         all = kind.join(all, x);
     }
     all
 }
 
 // What comes to row i from the rows of a set, the lowest first.
-fn from_set<K: FactKind>(kind: &K, kept: &[NodeSet], set: NodeSet, i: usize) -> NodeSet
-    ensures { λ x. ⌜ members x ≡ gather (K·FactKind .flow (now (kind .entry)) .join) (at (K·FactKind .flow (now (kind .entry))) (setsOf (now (kept .entry)))) (enters (K·FactKind .flow (now (kind .entry))) i) (passing (has (members set)) 448 0) ⌝ }
+fn from_set<K: FactKind>(kind: &K, facts: &[NodeSet], set: NodeSet, i: usize) -> NodeSet
+    ensures { λ x. ⌜ members x ≡ gather (K·FactKind .flow (now (kind .entry)) .join) (at (K·FactKind .flow (now (kind .entry))) (setsOf (now (facts .entry)))) (enters (K·FactKind .flow (now (kind .entry))) i) (passing (has (members set)) 448 0) ⌝ }
 {
     let mut all = entering(kind, i);
     let mut j = set.next(0);
     while j < NodeSet::CAPACITY {
-        let x = fact_at(kind, kept, j);
+        let x = fact_at(kind, facts, j);
         all = kind.join(all, x);
         j = set.next(j + 1);
     }
@@ -100,31 +104,31 @@ fn set_at(sets: &[NodeSet], i: usize) -> NodeSet
     NodeSet::empty()
 }
 
-// What comes to row i where the rows keep the facts of `kept`; of a row for which there is no room in `comers` only what enters.
-pub fn incoming<K: FactKind>(kind: &K, kept: &[NodeSet], comers: &[NodeSet], i: usize) -> NodeSet
-    ensures { λ x. ⌜ (Tells (K·FactKind .flow (now (kind .entry))) (now (comers .entry)) → members x ≡ incomingOf (K·FactKind .flow (now (kind .entry))) (feeders (K·FactKind .flow (now (kind .entry)))) (at (K·FactKind .flow (now (kind .entry))) (setsOf (take (rowsOf (K·FactKind .flow (now (kind .entry)))) (now (kept .entry))))) i) ⌝ }
+// What comes to row i where the rows keep the facts of `facts`; of a row for which there is no room in `comers` only what enters.
+pub fn incoming<K: FactKind>(kind: &K, facts: &[NodeSet], comers: &[NodeSet], i: usize) -> NodeSet
+    ensures { λ x. ⌜ (Tells (K·FactKind .flow (now (kind .entry))) (now (comers .entry)) → members x ≡ incomingOf (K·FactKind .flow (now (kind .entry))) (feeders (K·FactKind .flow (now (kind .entry)))) (at (K·FactKind .flow (now (kind .entry))) (setsOf (take (rowsOf (K·FactKind .flow (now (kind .entry)))) (now (facts .entry))))) i) ⌝ }
 {
     let n = kind.rows();
-    let facts = &kept[..n.min(kept.len())];
+    let held = &facts[..n.min(facts.len())];
     if kind.backward() {
-        return from_ways(kind, facts, i);
+        return from_ways(kind, held, i);
     }
     let set = set_at(&comers[..n.min(comers.len())], i);
-    from_set(kind, facts, set, i)
+    from_set(kind, held, set, i)
 }
 
 // Keeps for row i what it yields now, and says whether that alters anything.
-fn visit<K: FactKind>(kind: &K, kept: &mut [NodeSet], comers: &[NodeSet], i: usize) -> bool
-    requires rows { ⌜ length (now kept) ≡ rowsOf (K·FactKind .flow (now kind)) ⌝ }
-    requires inside { ⌜ i < length (now kept) ⌝ }
+fn visit<K: FactKind>(kind: &K, facts: &mut [NodeSet], comers: &[NodeSet], i: usize) -> bool
+    requires rows { ⌜ length (now facts) ≡ rowsOf (K·FactKind .flow (now kind)) ⌝ }
+    requires inside { ⌜ i < length (now facts) ⌝ }
     requires told { ⌜ Tells (K·FactKind .flow (now kind)) (now comers) ⌝ }
-    ensures facts { λ _. ⌜ setsOf (now (kept .exit)) ≡ set (setsOf (now (kept .entry))) i (yields (K·FactKind .flow (now (kind .entry))) (feeders (K·FactKind .flow (now (kind .entry)))) (at (K·FactKind .flow (now (kind .entry))) (setsOf (now (kept .entry)))) i) ⌝ }
-    ensures fresh { λ b. ⌜ b ≡ not (eqb (yields (K·FactKind .flow (now (kind .entry))) (feeders (K·FactKind .flow (now (kind .entry)))) (at (K·FactKind .flow (now (kind .entry))) (setsOf (now (kept .entry)))) i) (at (K·FactKind .flow (now (kind .entry))) (setsOf (now (kept .entry))) i)) ⌝ }
+    ensures yielded { λ _. ⌜ setsOf (now (facts .exit)) ≡ set (setsOf (now (facts .entry))) i (yields (K·FactKind .flow (now (kind .entry))) (feeders (K·FactKind .flow (now (kind .entry)))) (at (K·FactKind .flow (now (kind .entry))) (setsOf (now (facts .entry)))) i) ⌝ }
+    ensures fresh { λ b. ⌜ b ≡ not (eqb (yields (K·FactKind .flow (now (kind .entry))) (feeders (K·FactKind .flow (now (kind .entry)))) (at (K·FactKind .flow (now (kind .entry))) (setsOf (now (facts .entry)))) i) (at (K·FactKind .flow (now (kind .entry))) (setsOf (now (facts .entry))) i)) ⌝ }
 {
-    let came = incoming(kind, kept, comers, i);
+    let came = incoming(kind, facts, comers, i);
     let new = kind.step(i, came);
-    let old = kept[i];
-    kept[i] = new;
+    let old = facts[i];
+    facts[i] = new;
     !new.equals(&old)
 }
 
@@ -140,31 +144,31 @@ fn turn<K: FactKind>(kind: &K, k: usize) -> usize
 }
 
 // Visits every row once, and says whether that altered anything.
-fn sweep<K: FactKind>(kind: &K, kept: &mut [NodeSet], comers: &[NodeSet]) -> bool
-    requires rows { ⌜ length (now kept) ≡ rowsOf (K·FactKind .flow (now kind)) ⌝ }
+fn sweep<K: FactKind>(kind: &K, facts: &mut [NodeSet], comers: &[NodeSet]) -> bool
+    requires rows { ⌜ length (now facts) ≡ rowsOf (K·FactKind .flow (now kind)) ⌝ }
     requires told { ⌜ Tells (K·FactKind .flow (now kind)) (now comers) ⌝ }
-    ensures facts { λ _. ⌜ setsOf (now (kept .exit)) ≡ swept (K·FactKind .flow (now (kind .entry))) (feeders (K·FactKind .flow (now (kind .entry)))) (turns (K·FactKind .flow (now (kind .entry)))) (setsOf (now (kept .entry))) false .kept ⌝ }
-    ensures fresh { λ b. ⌜ b ≡ swept (K·FactKind .flow (now (kind .entry))) (feeders (K·FactKind .flow (now (kind .entry)))) (turns (K·FactKind .flow (now (kind .entry)))) (setsOf (now (kept .entry))) false .altered ⌝ }
+    ensures visited { λ _. ⌜ setsOf (now (facts .exit)) ≡ swept (K·FactKind .flow (now (kind .entry))) (feeders (K·FactKind .flow (now (kind .entry)))) (turns (K·FactKind .flow (now (kind .entry)))) (setsOf (now (facts .entry))) false .kept ⌝ }
+    ensures fresh { λ b. ⌜ b ≡ swept (K·FactKind .flow (now (kind .entry))) (feeders (K·FactKind .flow (now (kind .entry)))) (turns (K·FactKind .flow (now (kind .entry)))) (setsOf (now (facts .entry))) false .altered ⌝ }
 {
     let mut altered = false;
-    for k in 0..kept.len() {
+    for k in 0..facts.len() {
         let i = turn(kind, k);
-        let fresh = visit(kind, kept, comers, i);
+        let fresh = visit(kind, facts, comers, i);
         altered = altered | fresh;
     }
     altered
 }
 
 // Sweeps from the least facts until nothing alters; what the memory held does not count.
-fn settle<K: FactKind>(kind: &K, kept: &mut [NodeSet], comers: &[NodeSet])
-    requires rows { ⌜ length (now kept) ≡ rowsOf (K·FactKind .flow (now kind)) ⌝ }
+fn settle<K: FactKind>(kind: &K, facts: &mut [NodeSet], comers: &[NodeSet])
+    requires rows { ⌜ length (now facts) ≡ rowsOf (K·FactKind .flow (now kind)) ⌝ }
     requires told { ⌜ Tells (K·FactKind .flow (now kind)) (now comers) ⌝ }
-    ensures { λ _. ⌜ setsOf (now (kept .exit)) ≡ solved (K·FactKind .flow (now (kind .entry))) ⌝ }
+    ensures { λ _. ⌜ setsOf (now (facts .exit)) ≡ solved (K·FactKind .flow (now (kind .entry))) ⌝ }
 {
-    for i in 0..kept.len() {
-        kept[i] = kind.least();
+    for i in 0..facts.len() {
+        facts[i] = kind.least();
     }
-    while sweep(kind, kept, comers) {}
+    while sweep(kind, facts, comers) {}
 }
 
 // Adds row j to the comers of row i, if there is a row i.
@@ -222,15 +226,15 @@ fn memory_suffices<K: FactKind>(kind: &K, kept: usize, comers: usize) -> bool
 }
 
 // Solves the equations of a kind in the memory lent, if it suffices: one set for each row, and for a forward kind another.
-pub fn solve<K: FactKind>(kind: &K, kept: &mut [NodeSet], comers: &mut [NodeSet]) -> bool
-    ensures room { λ r. ⌜ r ≡ suffices (K·FactKind .flow (now (kind .entry))) (length (now (kept .entry))) (length (now (comers .entry))) ⌝ }
-    ensures answer { λ r. ⌜ Answers r (K·FactKind .flow (now (kind .entry))) (now (kept .entry)) (now (kept .exit)) (now (comers .entry)) (now (comers .exit)) ⌝ }
+pub fn solve<K: FactKind>(kind: &K, facts: &mut [NodeSet], comers: &mut [NodeSet]) -> bool
+    ensures room { λ r. ⌜ r ≡ suffices (K·FactKind .flow (now (kind .entry))) (length (now (facts .entry))) (length (now (comers .entry))) ⌝ }
+    ensures answer { λ r. ⌜ Answers r (K·FactKind .flow (now (kind .entry))) (now (facts .entry)) (now (facts .exit)) (now (comers .entry)) (now (comers .exit)) ⌝ }
 {
-    if !memory_suffices(kind, kept.len(), comers.len()) {
+    if !memory_suffices(kind, facts.len(), comers.len()) {
         return false;
     }
     let n = kind.rows();
     list_comers(kind, comers);
-    settle(kind, &mut kept[..n], comers);
+    settle(kind, &mut facts[..n], comers);
     true
 }
