@@ -1,0 +1,5 @@
+pub mod Sweeping
+pub mod Laws
+pub mod Walking
+pub mod Memory
+pub mod Example

@@ -1,0 +1,3 @@
+pub mod Flow
+pub mod Shapes
+pub mod Solving
