@@ -20,7 +20,6 @@ nested-tested = record {
   counted = refl;
   reckoned = refl;
   room = refl;
-  inside = refl;
   shared = refl;
 }
 
@@ -36,7 +35,6 @@ paired-tested = record {
   counted = refl;
   reckoned = refl;
   room = refl;
-  inside = refl;
   shared = refl;
 }
 

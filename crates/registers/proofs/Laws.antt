@@ -13,6 +13,9 @@ use Rattle.registers.specs.Model.{Model, Lawful, classBits, clashes}
 use Rattle.registers.specs.Description.{Description, Tested, fenced, lowest, meets}
 use Rattle.registers.proofs.RunBits.{Wired}
 
+abbrev classes : ℕ
+classes = 3
+
 implied : (a b : Bool) → (not a || b) ≡ true → a ≡ true → b ≡ true
 implied true b t e = t
 implied false b t e = absurd (both-ways false refl e)
@@ -25,14 +28,14 @@ module _ (d : Description) (t : Tested d) where
   in-class : (r c : ℕ) → fenced d .belongs r c ≡ true → (r < d .count) × (c < 3) × (d .belongs r c ≡ true)
   in-class r c e =
       let a = and-parts (ltb r (d .count)) _ e in
-      let b = and-parts (ltb c 3) (d .belongs r c) (a .1) in
-      (ltb-true r (d .count) (a .0), ltb-true c 3 (b .0), b .1)
+      let inner = and-parts (ltb c 3) (d .belongs r c) (a .1) in
+      (ltb-true r (d .count) (a .0), ltb-true c 3 (inner .0), inner .1)
 
   touch : (r s : ℕ) → fenced d .overlaps r s ≡ true → (r < d .count) × (s < d .count) × (d .overlaps r s ≡ true)
   touch r s e =
       let a = and-parts (ltb r (d .count)) _ e in
-      let b = and-parts (ltb s (d .count)) (d .overlaps r s) (a .1) in
-      (ltb-true r (d .count) (a .0), ltb-true s (d .count) (b .0), b .1)
+      let inner = and-parts (ltb s (d .count)) (d .overlaps r s) (a .1) in
+      (ltb-true r (d .count) (a .0), ltb-true s (d .count) (inner .0), inner .1)
 
   no-class : (c : ℕ) → 3 ≤ c → (r : ℕ) → fenced d .belongs r c ≡ false
   no-class c h r = and-right (ltb r (d .count)) _ (rw (le-ltb c 3 h))
@@ -54,7 +57,7 @@ module _ (d : Description) (t : Tested d) where
   wide-at r c e =
       let h = in-class r c e in
       let row = all-at (λ r. all (λ c. not (d .belongs r c) || leb (classBits c) (d .width r)) 3) (d .count) r (t .wide) (h .0) in
-      let at = all-at (λ c. not (d .belongs r c) || leb (classBits c) (d .width r)) 3 c row (h .1) in
+      let at = all-at (λ c. not (d .belongs r c) || leb (classBits c) (d .width r)) classes c row (h .1) in
       rw (lt-ltb r (d .count) (h .0)) (leb-true (classBits c) (d .width r) (implied (d .belongs r c) _ at (h .2)))
 
   abbrev largest : ℕ → ℕ → ℕ
@@ -62,7 +65,7 @@ module _ (d : Description) (t : Tested d) where
 
   counted-at : (c : ℕ) → fenced d .p c ≡ countOf (λ r. fenced d .belongs r c) (d .count)
   counted-at c = elim (cases-lt c 3) [
-    | inl lt ↦ cond-true (ltb c 3) (d .p c) 0 (lt-ltb c 3 lt) ∙ eqb-true (d .p c) _ (all-at (λ c. eqb (d .p c) (countOf (λ r. fenced d .belongs r c) (d .count))) 3 c (t .counted) lt)
+    | inl lt ↦ cond-true (ltb c 3) (d .p c) 0 (lt-ltb c 3 lt) ∙ eqb-true (d .p c) _ (all-at (λ c. eqb (d .p c) (countOf (λ r. fenced d .belongs r c) (d .count))) classes c (t .counted) lt)
     | inr ge ↦ cond-false (ltb c 3) (d .p c) 0 (le-ltb c 3 ge) ∙ sym (count-none (λ r. fenced d .belongs r c) (d .count) (λ r _. no-class c ge r))
   ]
 
@@ -78,15 +81,15 @@ module _ (d : Description) (t : Tested d) where
     | inl b3 ↦ elim (cases-lt c 3) [
       | inr ge ↦ cond-false _ (d .q b c) 0 (and-right _ _ (le-ltb c 3 ge)) ∙ sym (most-none _ (d .count) (λ r _. reckoned-outside b c (inr ge) r))
       | inl c3 ↦
-          let row = all-at (λ b. all (λ c. eqb (d .q b c) (largest b c)) 3) 3 b (t .reckoned) b3 in
-          cond-true _ (d .q b c) 0 (and-from _ _ (lt-ltb b 3 b3) (lt-ltb c 3 c3)) ∙ eqb-true (d .q b c) _ (all-at (λ c. eqb (d .q b c) (largest b c)) 3 c row c3)
+          let row = all-at (λ b. all (λ c. eqb (d .q b c) (largest b c)) 3) classes b (t .reckoned) b3 in
+          cond-true _ (d .q b c) 0 (and-from _ _ (lt-ltb b 3 b3) (lt-ltb c 3 c3)) ∙ eqb-true (d .q b c) _ (all-at (λ c. eqb (d .q b c) (largest b c)) classes c row c3)
     ]
   ]
 
   room-at : (b c : ℕ) → b < 3 → c < 3 → fenced d .q b c < fenced d .p b
   room-at b c b3 c3 =
-      let row = all-at (λ b. all (λ c. ltb (d .q b c) (d .p b)) 3) 3 b (t .room) b3 in
-      rw (lt-ltb b 3 b3, lt-ltb c 3 c3) (ltb-true (d .q b c) (d .p b) (all-at (λ c. ltb (d .q b c) (d .p b)) 3 c row c3))
+      let row = all-at (λ b. all (λ c. ltb (d .q b c) (d .p b)) 3) classes b (t .room) b3 in
+      rw (lt-ltb b 3 b3, lt-ltb c 3 c3) (ltb-true (d .q b c) (d .p b) (all-at (λ c. ltb (d .q b c) (d .p b)) classes c row c3))
 
   pub lawful : Lawful (fenced d)
   lawful = record {

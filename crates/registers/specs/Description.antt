@@ -45,5 +45,4 @@ pub record Tested (d : Description) : Type 0 where
   pub counted : all (λ c. eqb (d .p c) (countOf (λ r. fenced d .belongs r c) (d .count))) 3 ≡ true
   pub reckoned : all (λ b. all (λ c. eqb (d .q b c) (most (λ r. cond (fenced d .belongs r c) (clashes (fenced d) b r) 0) (d .count))) 3) 3 ≡ true
   pub room : all (λ b. all (λ c. ltb (d .q b c) (d .p b)) 3) 3 ≡ true
-  pub inside : all (λ r. ltb (d .low r) 128 && leb (d .low r + d .width r) 128) (d .count) ≡ true
   pub shared : all (λ r. all (λ s. cond (meets d r s) (d .overlaps r s) (not (d .overlaps r s))) (d .count)) (d .count) ≡ true
