@@ -1,6 +1,6 @@
 -- The registers of both chips as parts of one another.
 use mathlib.Core.Path.{_≡_, sym}
-use Prim.Native.Nat.{ℕ, zero, suc, _+_, _*_, _/_, _%_, _^_, _<_}
+use Prim.Native.Nat.{ℕ, zero, suc, _+_, _/_, _%_, _^_}
 use native.Mathlib.Omega.{arith}
 use lib.Pow.{mod-mod-pow}
 use Rattle.registers.specs.Runs.{part}

@@ -26,6 +26,7 @@ pub struct Nested {
     pub bits: u128,
 }
 
+/// The bits of register `r`, none if there is no such register.
 fn run(r: usize) -> Run
     ensures { λ x. ⌜ x .low ≡ nestedLow r ⌝ ∗ ⌜ x .width ≡ nestedFile .width r ⌝ }
 {

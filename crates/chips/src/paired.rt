@@ -29,6 +29,7 @@ fn word_of(r: usize) -> usize
     if r < SINGLES { r / 2 } else { r - SINGLES }
 }
 
+/// The bits of register `r`, none if there is no such register.
 fn run(r: usize) -> Run
     ensures { λ x. ⌜ x .low ≡ pairedLow r ⌝ ∗ ⌜ x .width ≡ pairedFile .width r ⌝ }
 {

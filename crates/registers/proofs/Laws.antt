@@ -2,14 +2,14 @@
 use mathlib.Core.Path.{_≡_, refl, sym, _∙_}
 use mathlib.Core.Bool.{Bool, true, false, cond, _&&_, _||_, not}
 use mathlib.Core.Logic.{_⊎_, inl, inr}
-use Prim.Native.Nat.{ℕ, zero, suc, _+_, _<_, _≤_, zero-le}
+use Prim.Native.Nat.{ℕ, _+_, _<_, _≤_, zero-le}
 use native.Mathlib.Omega.{arith}
 use lib.Dec.{ltb, leb, eqb}
-use Rattle.std.proofs.shelf.Tests.{and-parts, and-from, and-left, and-right, and-cases, ltb-true, ltb-false, leb-true, eqb-true, lt-ltb, le-ltb, cases-lt, cases-bool, cond-true, cond-false, cond-both, both-ways}
+use Rattle.std.proofs.shelf.Tests.{and-parts, and-from, and-left, and-right, and-cases, ltb-true, ltb-false, leb-true, eqb-true, lt-ltb, le-ltb, cases-lt, cond-true, cond-false, cond-both, both-ways}
 use Rattle.counting.specs.Counting.{count as countOf, most, all}
 use Rattle.counting.proofs.Searches.{all-at}
 use Rattle.counting.proofs.Sums.{count-none, most-none}
-use Rattle.registers.specs.Model.{Model, Lawful, classBits, clashes}
+use Rattle.registers.specs.Model.{Lawful, classBits, clashes}
 use Rattle.registers.specs.Description.{Description, Tested, fenced, lowest, meets}
 use Rattle.registers.proofs.RunBits.{Wired}
 

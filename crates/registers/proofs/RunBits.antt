@@ -1,14 +1,14 @@
 -- Runs of bits: a store changes the bits of its run and no other, so it is a write.
-use mathlib.Core.Path.{_≡_, refl, sym, ap, _∙_}
-use mathlib.Core.Bool.{Bool, true, false, cond, _&&_}
+use mathlib.Core.Path.{_≡_, sym, ap, _∙_}
+use mathlib.Core.Bool.{false, cond, _&&_}
 use mathlib.Core.Logic.{_⊎_, inl, inr}
 use Prim.Native.Nat.{ℕ, zero, suc, _+_, _-_, _*_, _/_, _%_, _^_, _<_, _≤_}
 use native.Mathlib.Omega.{arith}
-use native.Mathlib.Nat.{mod-lt, mod-mod}
+use native.Mathlib.Nat.{mod-lt}
 use lib.Bits.{bitOr}
 use lib.Dec.{ltb, leb}
 use lib.Pow.{mod-mod-pow}
-use Rattle.std.proofs.shelf.Bits.{pow-pos, pow-add, shr-shr, shr-below, shr-high, mod-low, or-shifted, shl-whole, one-shl, shl-below, mul-add-lt, field-of, mod-pow-add}
+use Rattle.std.proofs.shelf.Bits.{pow-pos, pow-add, shr-shr, shr-below, shr-high, mod-low, or-shifted, shl-whole, one-shl, mul-add-lt, field-of, mod-pow-add}
 use Rattle.std.proofs.shelf.Tests.{cases-lt, lt-ltb, le-ltb, le-leb, lt-leb, and-right, cond-false}
 use Rattle.registers.specs.Model.{Model, Written}
 use Rattle.registers.specs.Runs.{bit, part, patched, held, Leaves}
