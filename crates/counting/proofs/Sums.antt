@@ -91,3 +91,23 @@ none-below nb cls q (suc n) =
       | inl e ↦ rw (e, le-ltb (cls n) 0 (omega arith)) (omega (arith, none-below nb cls q n))
       | inr e ↦ rw e (omega (arith, none-below nb cls q n))
     ]
+
+-- none passes
+pub count-none : (t : ℕ → Bool) (n : ℕ) → ((k : ℕ) → k < n → t k ≡ false) → count t n ≡ 0
+unfolding sum
+count-none t zero h = refl
+count-none t (suc n) h = rw (h n (omega arith)) (omega (arith, count-none t n (λ k l. h k (omega arith))))
+
+pub most-none : (f : ℕ → ℕ) (n : ℕ) → ((k : ℕ) → k < n → f k ≡ 0) → most f n ≡ 0
+unfolding most
+most-none f zero h = refl
+most-none f (suc n) h = rw (h n (omega arith), most-none f n (λ k l. h k (omega arith)))
+
+-- the step of a loop that counts
+pub count-yes : (t : ℕ → Bool) (n a b : ℕ) → a ≡ count t n → t n ≡ true → b ≡ a + 1 → b ≡ count t (n + 1)
+unfolding sum
+count-yes t n a b e h next = rw (add-one, h) (omega arith)
+
+pub count-no : (t : ℕ → Bool) (n a b : ℕ) → a ≡ count t n → t n ≡ false → b ≡ a → b ≡ count t (n + 1)
+unfolding sum
+count-no t n a b e h next = rw (add-one, h) (omega arith)

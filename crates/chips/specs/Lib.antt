@@ -1,0 +1,2 @@
+pub mod NestedChip
+pub mod PairedChip

@@ -1,0 +1,3 @@
+pub mod RunBits
+pub mod Laws
+pub mod Bounds
