@@ -3,13 +3,16 @@
 //! It shares no text with the proved program. Each module follows one page:
 //! `source`, `facts` and `fault` follow FORMAT.md, FACTS.md and REFUSALS.md;
 //! `registers` REGISTERS.md; `round`, `rewrite` and `compile` ALLOCATION.md;
-//! `rehearse` REHEARSAL.md; `lines` CASES.md.
+//! `rehearse` REHEARSAL.md; `lines` CASES.md. `draft` and `random` make files
+//! for tests and for the program `generate`.
 
 pub mod compile;
+pub mod draft;
 pub mod facts;
 pub mod fault;
 pub mod lines;
 pub mod nodes;
+pub mod random;
 pub mod registers;
 pub mod rehearse;
 pub mod rewrite;
