@@ -72,7 +72,16 @@ pub struct Shape {
 
 impl Shape {
     pub fn any(random: &mut Random, variables: usize, rows: usize) -> Self {
-        let mixes = [[1, 1, 1], [1, 0, 0], [0, 1, 0], [0, 0, 1], [2, 1, 0], [1, 2, 3], [3, 1, 1], [0, 1, 2]];
+        let mixes = [
+            [1, 1, 1],
+            [1, 0, 0],
+            [0, 1, 0],
+            [0, 0, 1],
+            [2, 1, 0],
+            [1, 2, 3],
+            [3, 1, 1],
+            [0, 1, 2],
+        ];
         Shape {
             variables,
             rows,
@@ -124,9 +133,8 @@ pub fn program(random: &mut Random, shape: &Shape) -> Draft {
         before.push(written);
         through = Some(written);
         let weight = if shape.weights { random.below(4) as u32 } else { 0 };
-        let backward: Vec<u32> = (0..=i as u32)
-            .filter(|&t| before[t as usize] & !written == 0)
-            .collect();
+        let backward: Vec<u32> =
+            (0..=i as u32).filter(|&t| before[t as usize] & !written == 0).collect();
         if i == last {
             let jumps = random.chance(shape.backward / 2);
             rows.push(if jumps {
