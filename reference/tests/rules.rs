@@ -285,7 +285,7 @@ fn both_sides_agree() {
         for _ in 0..12 {
             if random.chance(15) {
                 let input: Vec<u32> =
-                    (0..random.below(300)).map(|_| random.next() as u32).collect();
+                    (0..random.below(300)).map(|_| random.number() as u32).collect();
                 if rehearsal.restart(&input).is_ok() {
                     (asked, played) = ([0; 2], [0; 2]);
                 }

@@ -77,7 +77,7 @@ fn restart(random: &mut Random, lines: &mut Vec<String>) {
         .map(|_| match style {
             0 => random.below(5) as u32,
             1 => random.pick(&[0, 1, 255, 256, 65_535, 65_536, u32::MAX]),
-            _ => random.next() as u32,
+            _ => random.number() as u32,
         })
         .map(|number| number.to_string())
         .collect();

@@ -551,7 +551,7 @@ fn written(cases: &mut Cases) {
         }
     }
     // Late in a full program, and a write that comes a row late.
-    for v in [0u32, 31, 62, 63] {
+    for v in [0u32, 1, 31, 62, 63] {
         let mut draft = largest();
         draft.rows[v as usize] = row(9, 0, (v + 1) % 64, 0, 0, 0);
         cases.bytes(&draft.bytes());
