@@ -81,7 +81,11 @@ pub fn compile(program: &Program, file: &RegisterFile) -> Compiled {
 fn emit(working: &Working, colouring: &Colouring) -> Vec<CodeRow> {
     let register = |used: bool, v: u16| {
         let node = || colouring.node[v as usize];
-        if used { colouring.register[node()].expect("coloured") as u16 } else { 0 }
+        if used {
+            colouring.register[node()].expect("coloured") as u16
+        } else {
+            0
+        }
     };
     let mut code = Vec::with_capacity(working.rows.len());
     let mut first = Vec::with_capacity(working.rows.len());

@@ -27,7 +27,8 @@ impl Draft {
     pub fn bytes(&self) -> Vec<u8> {
         let mut bytes = vec![self.classes.len() as u8, self.rows.len() as u8];
         for four in self.classes.chunks(4) {
-            let packed = four.iter().enumerate().fold(0, |byte, (i, class)| byte | class << (6 - 2 * i));
+            let packed =
+                four.iter().enumerate().fold(0, |byte, (i, class)| byte | class << (6 - 2 * i));
             bytes.push(packed);
         }
         for row in &self.rows {

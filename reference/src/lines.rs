@@ -215,7 +215,7 @@ fn bytes(hex: &[u8]) -> Option<Vec<u8>> {
     if hex == b"-" {
         return Some(Vec::new());
     }
-    if hex.len() % 2 != 0 {
+    if !hex.len().is_multiple_of(2) {
         return None;
     }
     let digit = |byte: u8| match byte {

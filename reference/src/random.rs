@@ -10,7 +10,7 @@ impl Random {
         Random(seed)
     }
 
-    pub fn next(&mut self) -> u64 {
+    pub fn number(&mut self) -> u64 {
         self.0 = self.0.wrapping_add(0x9e37_79b9_7f4a_7c15);
         let mut z = self.0;
         z = (z ^ z >> 30).wrapping_mul(0xbf58_476d_1ce4_e5b9);
@@ -20,7 +20,7 @@ impl Random {
 
     /// A number below `bound`, which is not 0.
     pub fn below(&mut self, bound: usize) -> usize {
-        (self.next() % bound as u64) as usize
+        (self.number() % bound as u64) as usize
     }
 
     /// A number from `low` to `high`, both included.
@@ -72,7 +72,16 @@ pub struct Shape {
 
 impl Shape {
     pub fn any(random: &mut Random, variables: usize, rows: usize) -> Self {
-        let mixes = [[1, 1, 1], [1, 0, 0], [0, 1, 0], [0, 0, 1], [2, 1, 0], [1, 2, 3], [3, 1, 1], [0, 1, 2]];
+        let mixes = [
+            [1, 1, 1],
+            [1, 0, 0],
+            [0, 1, 0],
+            [0, 0, 1],
+            [2, 1, 0],
+            [1, 2, 3],
+            [3, 1, 1],
+            [0, 1, 2],
+        ];
         Shape {
             variables,
             rows,
@@ -124,9 +133,8 @@ pub fn program(random: &mut Random, shape: &Shape) -> Draft {
         before.push(written);
         through = Some(written);
         let weight = if shape.weights { random.below(4) as u32 } else { 0 };
-        let backward: Vec<u32> = (0..=i as u32)
-            .filter(|&t| before[t as usize] & !written == 0)
-            .collect();
+        let backward: Vec<u32> =
+            (0..=i as u32).filter(|&t| before[t as usize] & !written == 0).collect();
         if i == last {
             let jumps = random.chance(shape.backward / 2);
             rows.push(if jumps {

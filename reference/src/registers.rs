@@ -68,9 +68,8 @@ impl RegisterFile {
             (registers.iter().enumerate()).fold(0u64, |set, (r, x)| set | u64::from(keep(x)) << r)
         };
         let of_class = [0, 1, 2].map(|class| bits(&|r| r.classes.contains(&class)));
-        let overlapping: Vec<u64> = (registers.iter())
-            .map(|one| bits(&|other| one.overlaps(other)))
-            .collect();
+        let overlapping: Vec<u64> =
+            (registers.iter()).map(|one| bits(&|other| one.overlaps(other))).collect();
         let p = of_class.map(u64::count_ones);
         let blocked = |b: usize, c: usize| {
             (overlapping.iter().enumerate())

@@ -56,18 +56,12 @@ pub const SOURCE_OPCODES: [Opcode; 13] = [
 impl Opcode {
     pub fn writes_d(self) -> bool {
         use Opcode::*;
-        matches!(
-            self,
-            Const | Copy | Add | Sub | And | Xor | Widen | Narrow | Input | Load
-        )
+        matches!(self, Const | Copy | Add | Sub | And | Xor | Widen | Narrow | Input | Load)
     }
 
     pub fn reads_a(self) -> bool {
         use Opcode::*;
-        matches!(
-            self,
-            Copy | Add | Sub | And | Xor | Widen | Narrow | Output | Less | Store
-        )
+        matches!(self, Copy | Add | Sub | And | Xor | Widen | Narrow | Output | Less | Store)
     }
 
     pub fn reads_b(self) -> bool {
@@ -165,9 +159,8 @@ fn read(file: &[u8]) -> Result<Program, Fault> {
     }
 
     let (class_part, row_part) = body.split_at(class_bytes);
-    let mut pairs = class_part
-        .iter()
-        .flat_map(|byte| [byte >> 6, byte >> 4 & 3, byte >> 2 & 3, byte & 3]);
+    let mut pairs =
+        class_part.iter().flat_map(|byte| [byte >> 6, byte >> 4 & 3, byte >> 2 & 3, byte & 3]);
     let classes: Vec<Class> = pairs.by_ref().take(variables).collect();
     if let Some(variable) = classes.iter().position(|&class| class == 3) {
         return Err(Fault::new(5, variable));

@@ -92,11 +92,17 @@ fn a_copy_is_merged_away() {
 
 #[test]
 fn five_words_take_three_rounds() {
-    let rows: Vec<u32> = (0..5).map(|v| constant(0, v, v)).chain((0..5).map(put)).chain([END]).collect();
+    let rows: Vec<u32> =
+        (0..5).map(|v| constant(0, v, v)).chain((0..5).map(put)).chain([END]).collect();
     let result = compiled(&[2; 5], &rows, &RegisterFile::nested());
     assert_eq!((result.rounds, result.code.len()), (3, 15));
-    let expected =
-        [Place::Slot(0), Place::Slot(1), Place::Register(3), Place::Register(2), Place::Register(1)];
+    let expected = [
+        Place::Slot(0),
+        Place::Slot(1),
+        Place::Register(3),
+        Place::Register(2),
+        Place::Register(1),
+    ];
     assert_eq!(places(&result), expected);
     let given: Vec<(usize, Mark)> = result.report.iter().map(|g| (g.round, g.mark)).collect();
     let (hoped, tested) = (Mark::Hoped, Mark::Tested);
@@ -278,7 +284,8 @@ fn both_sides_agree() {
         let (mut asked, mut played) = ([0u64; 2], [0u64; 2]);
         for _ in 0..12 {
             if random.chance(15) {
-                let input: Vec<u32> = (0..random.below(300)).map(|_| random.next() as u32).collect();
+                let input: Vec<u32> =
+                    (0..random.below(300)).map(|_| random.number() as u32).collect();
                 if rehearsal.restart(&input).is_ok() {
                     (asked, played) = ([0; 2], [0; 2]);
                 }
@@ -294,7 +301,9 @@ fn both_sides_agree() {
                 }
             }
             let (source, code) = (&rehearsal.source, &rehearsal.code);
-            assert!(source.output.starts_with(&code.output) || code.output.starts_with(&source.output));
+            assert!(
+                source.output.starts_with(&code.output) || code.output.starts_with(&source.output)
+            );
             let alike = source.outcome == code.outcome && source.output == code.output;
             if source.outcome != Outcome::Running && asked[1] >= 4 * played[0] {
                 assert!(alike);

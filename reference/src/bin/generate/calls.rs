@@ -43,7 +43,22 @@ pub fn rehearsal(random: &mut Random, i: usize) -> String {
 fn play(random: &mut Random, lines: &mut Vec<String>) {
     let side = random.pick(&["source", "code"]);
     let few = random.between(1, 40) as u64;
-    let asked = random.pick(&[0, 1, 2, 3, few, few, few, 500, 4000, 65_535, 65_535, 65_536, 70_000, 4_294_967_295]);
+    let asked = random.pick(&[
+        0,
+        1,
+        2,
+        3,
+        few,
+        few,
+        few,
+        500,
+        4000,
+        65_535,
+        65_535,
+        65_536,
+        70_000,
+        4_294_967_295,
+    ]);
     lines.push(format!("> {side} {asked}"));
 }
 
@@ -62,7 +77,7 @@ fn restart(random: &mut Random, lines: &mut Vec<String>) {
         .map(|_| match style {
             0 => random.below(5) as u32,
             1 => random.pick(&[0, 1, 255, 256, 65_535, 65_536, u32::MAX]),
-            _ => random.next() as u32,
+            _ => random.number() as u32,
         })
         .map(|number| number.to_string())
         .collect();

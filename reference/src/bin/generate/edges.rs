@@ -99,7 +99,11 @@ pub fn all() -> Vec<String> {
 /// Files cut short at every length, and with bytes left over.
 fn lengths(cases: &mut Cases) {
     let smallest = Draft::new(&[], &[END]).bytes();
-    let copying = Draft::new(&[2, 2], &[constant(0, 0, 7), row(2, 0, 1, 0, 0, 0), row(10, 0, 0, 1, 0, 0), END]).bytes();
+    let copying = Draft::new(
+        &[2, 2],
+        &[constant(0, 0, 7), row(2, 0, 1, 0, 0, 0), row(10, 0, 0, 1, 0, 0), END],
+    )
+    .bytes();
     let five = Draft::new(&[0, 1, 2, 1, 0], &[constant(3, 4, 0xffff), END]).bytes();
     for file in [&smallest, &copying, &five] {
         for length in 0..=file.len() {
@@ -145,7 +149,9 @@ fn heads(cases: &mut Cases) {
         file.resize(2 + rest, 0);
         file
     };
-    for v in [0u8, 1, 2, 3, 4, 5, 31, 32, 33, 62, 63, 64, 65, 66, 67, 68, 127, 128, 129, 192, 254, 255] {
+    for v in
+        [0u8, 1, 2, 3, 4, 5, 31, 32, 33, 62, 63, 64, 65, 66, 67, 68, 127, 128, 129, 192, 254, 255]
+    {
         for n in [0u8, 1, 127, 128, 129, 130, 255] {
             let exact = usize::from(v).div_ceil(4) + 4 * usize::from(n);
             cases.bytes(&head(v, n, 0));
@@ -271,8 +277,12 @@ fn unused_fields(cases: &mut Cases) {
             last.rows[9] = right(opcode, 1) | mask;
             cases.bytes(&last.bytes());
             // 8 before 9: the variables in use are wrong too.
-            let high = if opcode == 1 { 63 << 20 } else {
-                (0..3).filter(|&f| USES[opcode as usize][f]).fold(0, |bits, f| bits | 63 << FIELDS[f].0)
+            let high = if opcode == 1 {
+                63 << 20
+            } else {
+                (0..3)
+                    .filter(|&f| USES[opcode as usize][f])
+                    .fold(0, |bits, f| bits | 63 << FIELDS[f].0)
             };
             cases.middle(&[right(opcode, 10) | mask | high]);
         }
@@ -317,14 +327,22 @@ fn class_fits(cases: &mut Cases) {
         for d in range(uses_d) {
             for a in range(uses_a) {
                 for b in range(uses_b) {
-                    let variable = |used: bool, class: u32, k: u32| if used { 3 * class + k } else { 0 };
+                    let variable =
+                        |used: bool, class: u32, k: u32| if used { 3 * class + k } else { 0 };
                     let target = if has_target { 10 } else { 0 };
                     let made = |k: u32| {
                         let d = variable(uses_d, d, 0);
                         if opcode == 1 {
                             constant(1, d, 0x8001)
                         } else {
-                            row(opcode, 1, d, variable(uses_a, a, k), variable(uses_b, b, 2 * k), target)
+                            row(
+                                opcode,
+                                1,
+                                d,
+                                variable(uses_a, a, k),
+                                variable(uses_b, b, 2 * k),
+                                target,
+                            )
                         }
                     };
                     cases.middle(&[made(0)]);
@@ -338,7 +356,8 @@ fn class_fits(cases: &mut Cases) {
         }
     }
     // A mismatch at the first and at the last row.
-    let wrong = [row(2, 0, BYTE, WORD, 0, 0), row(3, 0, WORD, WORD, HALF, 0), row(12, 0, 0, HALF, BYTE, 0)];
+    let wrong =
+        [row(2, 0, BYTE, WORD, 0, 0), row(3, 0, WORD, WORD, HALF, 0), row(12, 0, 0, HALF, BYTE, 0)];
     for bad in wrong {
         let mut draft = around(&[]);
         draft.rows[0] = bad;
@@ -520,11 +539,19 @@ fn written(cases: &mut Cases) {
         cases.file(&NINE, &[input(a), reading, END]);
         if two {
             cases.file(&NINE, &[input(b), reading, END]);
-            cases.file(&NINE, &[input(a), input(b), if USES[opcode as usize][3] { reading + 1 } else { reading }, END]);
+            cases.file(
+                &NINE,
+                &[
+                    input(a),
+                    input(b),
+                    if USES[opcode as usize][3] { reading + 1 } else { reading },
+                    END,
+                ],
+            );
         }
     }
     // Late in a full program, and a write that comes a row late.
-    for v in [0u32, 31, 62, 63] {
+    for v in [0u32, 1, 31, 62, 63] {
         let mut draft = largest();
         draft.rows[v as usize] = row(9, 0, (v + 1) % 64, 0, 0, 0);
         cases.bytes(&draft.bytes());

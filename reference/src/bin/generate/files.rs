@@ -183,7 +183,8 @@ pub fn sized(random: &mut Random, i: usize, variables: usize, rows: usize) -> St
         backward: 30,
         weights: true,
     };
-    let shape = if i % 2 == 0 { base } else { Shape { branches: 16, backward: 50, ..base } };
+    let shape =
+        if i.is_multiple_of(2) { base } else { Shape { branches: 16, backward: 50, ..base } };
     let file = program(random, &shape).bytes();
     admit(&file).expect("made to be admitted");
     hex(&file)

@@ -41,7 +41,8 @@ fn programs() -> Vec<Draft> {
     // The worked cases of the documents.
     add_draft(&[], &[END]);
     add_draft(&[2, 2], &[constant(0, 0, 7), copy(1, 0), put(1), END]);
-    let five: Vec<u32> = (0..5).map(|v| constant(0, v, v + 1)).chain((0..5).map(put)).chain([END]).collect();
+    let five: Vec<u32> =
+        (0..5).map(|v| constant(0, v, v + 1)).chain((0..5).map(put)).chain([END]).collect();
     add_draft(&[2; 5], &five);
     add_draft(&[2, 2], &[constant(0, 0, 7), copy(1, 0), add(0, 0, 0), put(1), put(0), END]);
     add_draft(&[2, 2], &[constant(0, 0, 1), constant(0, 1, 2), put(0), END]);
@@ -52,7 +53,8 @@ fn programs() -> Vec<Draft> {
     for class in 0..3u8 {
         // Many live at once, from what a chip holds to far more, by class and weight.
         for count in [3u32, 4, 5, 6, 7, 8, 9, 12] {
-            let rows: Vec<u32> = (0..count).map(set).chain((0..count).map(put)).chain([END]).collect();
+            let rows: Vec<u32> =
+                (0..count).map(set).chain((0..count).map(put)).chain([END]).collect();
             add_draft(&vec![class; count as usize], &rows);
             let rows: Vec<u32> = (0..count)
                 .map(|v| weighed(v % 4, input(v)))
@@ -62,11 +64,8 @@ fn programs() -> Vec<Draft> {
             add_draft(&vec![class; count as usize], &rows);
         }
         // All 64 live, pairs read together; sums in which every place is spilled.
-        let pairs: Vec<u32> = (0..64)
-            .map(set)
-            .chain((0..63).map(|v| less(v, v + 1, 65 + v)))
-            .chain([END])
-            .collect();
+        let pairs: Vec<u32> =
+            (0..64).map(set).chain((0..63).map(|v| less(v, v + 1, 65 + v))).chain([END]).collect();
         add_draft(&[class; 64], &pairs);
         let sums: Vec<u32> = [set(0)]
             .into_iter()
@@ -106,7 +105,14 @@ fn programs() -> Vec<Draft> {
         add_draft(&[class; 9], &wide);
         // Jumps to a row with loads, and to dropped copies before it.
         let mut looped: Vec<u32> = (0..8).map(input).collect();
-        looped.extend([copy(1, 0), copy(2, 1), add(7, 7, 0), put(7), less(7, 6, 8), less(6, 7, 10)]);
+        looped.extend([
+            copy(1, 0),
+            copy(2, 1),
+            add(7, 7, 0),
+            put(7),
+            less(7, 6, 8),
+            less(6, 7, 10),
+        ]);
         looped.extend((0..8).map(put));
         looped.push(jump(9));
         add_draft(&[class; 8], &looped);
@@ -122,7 +128,8 @@ fn programs() -> Vec<Draft> {
     for order in [[0u8, 1, 2], [2, 1, 0], [1, 2, 0], [0, 2, 1]] {
         for count in [4usize, 7, 10, 15] {
             let classes: Vec<u8> = (0..count).map(|v| order[v % 3]).collect();
-            let rows: Vec<u32> = (0..count as u32).map(set).chain((0..count as u32).map(put)).chain([END]).collect();
+            let rows: Vec<u32> =
+                (0..count as u32).map(set).chain((0..count as u32).map(put)).chain([END]).collect();
             add_draft(&classes, &rows);
         }
     }
@@ -161,16 +168,29 @@ pub fn compile() -> Vec<String> {
 /// Rehearsals at the edges of calls, on both chips.
 pub fn rehearse() -> Vec<String> {
     let many = |count: usize| {
-        let numbers: Vec<String> = (0..count as u32).map(|i| (i * 77_777_777).to_string()).collect();
-        format!("> restart {count} {}", if count == 0 { "-".to_string() } else { numbers.join(",") })
+        let numbers: Vec<String> =
+            (0..count as u32).map(|i| (i * 77_777_777).to_string()).collect();
+        format!(
+            "> restart {count} {}",
+            if count == 0 { "-".to_string() } else { numbers.join(",") }
+        )
     };
-    let text = |calls: &[&str]| -> Vec<String> { calls.iter().map(|call| format!("> {call}")).collect() };
+    let text =
+        |calls: &[&str]| -> Vec<String> { calls.iter().map(|call| format!("> {call}")).collect() };
     let scripts: Vec<(Draft, Vec<String>)> = vec![
         // The edges of n and of restart, on a player that ends at once.
         (
             Draft::new(&[], &[END]),
             [
-                text(&["open", "state", "source 0", "code 0", "source 65536", "code 65536", "source 65535"]),
+                text(&[
+                    "open",
+                    "state",
+                    "source 0",
+                    "code 0",
+                    "source 65536",
+                    "code 65536",
+                    "source 65535",
+                ]),
                 text(&["code 65535", "source 1", "code 0", "restart 257", "source 1"]),
                 vec![many(256), many(0)],
                 text(&["source 1", "code 1", "state"]),
@@ -179,10 +199,30 @@ pub fn rehearse() -> Vec<String> {
         ),
         // Two outputs, one side far ahead; refused calls between.
         (
-            Draft::new(&[2, 2], &[constant(0, 0, 7), copy(1, 0), add(0, 0, 0), put(1), put(0), END]),
+            Draft::new(
+                &[2, 2],
+                &[constant(0, 0, 7), copy(1, 0), add(0, 0, 0), put(1), put(0), END],
+            ),
             [
-                text(&["open", "source 3", "code 4", "code 65536", "state", "code 20", "code 1", "source 765"]),
-                text(&["state", "restart 0 -", "source 5", "restart 300", "source 1", "code 5", "state"]),
+                text(&[
+                    "open",
+                    "source 3",
+                    "code 4",
+                    "code 65536",
+                    "state",
+                    "code 20",
+                    "code 1",
+                    "source 765",
+                ]),
+                text(&[
+                    "state",
+                    "restart 0 -",
+                    "source 5",
+                    "restart 300",
+                    "source 1",
+                    "code 5",
+                    "state",
+                ]),
                 text(&["restart 0 -", "state", "code 6", "source 6", "open", "state"]),
             ]
             .concat(),
@@ -191,15 +231,36 @@ pub fn rehearse() -> Vec<String> {
         (
             Draft::new(&[1], &[set(0), put(0), add(0, 0, 0), jump(1)]),
             [
-                text(&["open", "source 767", "source 1", "source 1", "state", "source 1", "source 1", "state"]),
-                text(&["code 767", "code 3", "code 3", "code 9", "state", "restart 0 -", "code 65535", "code 2"]),
+                text(&[
+                    "open",
+                    "source 767",
+                    "source 1",
+                    "source 1",
+                    "state",
+                    "source 1",
+                    "source 1",
+                    "state",
+                ]),
+                text(&[
+                    "code 767",
+                    "code 3",
+                    "code 3",
+                    "code 9",
+                    "state",
+                    "restart 0 -",
+                    "code 65535",
+                    "code 2",
+                ]),
                 text(&["source 65535", "state"]),
             ]
             .concat(),
         ),
         // Each number taken in is put out: input and output both run to their end.
         (
-            Draft::new(&[0, 1, 2], &[input(0), input(1), input(2), put(2), put(0), put(1), jump(0)]),
+            Draft::new(
+                &[0, 1, 2],
+                &[input(0), input(1), input(2), put(2), put(0), put(1), jump(0)],
+            ),
             [
                 text(&["open", "source 5", "code 5", "state"]),
                 vec![many(256)],
@@ -212,11 +273,13 @@ pub fn rehearse() -> Vec<String> {
         // 256 in, 256 out: the 257th input comes first; and the other way round.
         (
             Draft::new(&[2], &[input(0), put(0), jump(0)]),
-            [text(&["open"]), vec![many(256)], text(&["source 65535", "code 65535", "state"])].concat(),
+            [text(&["open"]), vec![many(256)], text(&["source 65535", "code 65535", "state"])]
+                .concat(),
         ),
         (
             Draft::new(&[2], &[input(0), put(0), put(0), jump(0)]),
-            [text(&["open"]), vec![many(256)], text(&["code 65535", "source 65535", "state"])].concat(),
+            [text(&["open"]), vec![many(256)], text(&["code 65535", "source 65535", "state"])]
+                .concat(),
         ),
         // A loop without output: it runs on.
         (

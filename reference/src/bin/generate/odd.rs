@@ -209,7 +209,9 @@ pub fn rehearse() -> Vec<String> {
         "> state",
     ]);
     let many = |count: usize| vec!["5"; count].join(",");
-    for (count, listed) in [(255, 255), (256, 256), (256, 255), (256, 257), (255, 256), (257, 257), (257, 3)] {
+    for (count, listed) in
+        [(255, 255), (256, 256), (256, 255), (256, 257), (255, 256), (257, 257), (257, 3)]
+    {
         all.push(format!("> restart {count} {}", many(listed)));
     }
     all.push("> state".to_string());
