@@ -7,9 +7,9 @@ use Prim.Native.Nat.{ℕ, zero, suc, _+_, _-_, _^_, _<_, _≤_}
 use native.Mathlib.Omega.{arith}
 use lib.Bits.{bitAnd, bitOr, bitXor, or-lt, and-lt, xor-lt, and-le-l}
 use lib.Dec.{ltb}
-use Rattle.std.proofs.shelf.Bits.{pow-pos}
-use Rattle.std.proofs.shelf.Tests.{cases-bool, both-ways, or-cases, or-left, or-right, and-parts, and-from, lt-ltb, ltb-true}
-use Rattle.sets.specs.Sets.{has, union, meet, minus, upTo, within, size}
+use Rattle.std.proofs.shelf.Bits.{pow-pos, pow-below}
+use Rattle.std.proofs.shelf.Tests.{cases-bool, cases-lt, both-ways, or-cases, or-left, or-right, and-parts, and-from, lt-ltb, le-ltb, ltb-true}
+use Rattle.sets.specs.Sets.{has, single, union, meet, minus, upTo, when, within, size}
 use Rattle.sets.proofs.Members.{has-union, has-minus, has-none, has-upTo}
 use Rattle.sets.proofs.Orders.{within-at, within-from, within-same, within-chain, within-both, union-left, union-right, union-lowest, meet-left, meet-right, meet-greatest, size-rises, size-capped}
 use Rattle.facts.specs.Flow.{Flow, Lawful}
@@ -88,3 +88,7 @@ added-steady n adds i x y a = union-lowest n x (adds i) _ (within-chain n x y _ 
 
 pub added-inside : (n : ℕ) (adds : ℕ → ℕ) → ((i : ℕ) → adds i < 2 ^ n) → Inside n (λ i x. union x (adds i))
 added-inside n adds small i x h = or-lt n x (adds i) h (small i)
+
+-- a number below n alone, or nothing
+pub single-inside : (n v : ℕ) → when (ltb v n) (single v) < 2 ^ n
+single-inside n v = elim (cases-lt v n) [ inl l ↦ rw (lt-ltb v n l) (pow-below v n l) | inr l ↦ rw (le-ltb v n l) (pow-pos n) ]

@@ -15,7 +15,7 @@ use Rattle.sets.specs.Sets.{has, union, single, when}
 use Rattle.sets.specs.Words.{joined, members, setsOf, noSet, emptySet, cleared}
 use Rattle.sets.proofs.Members.{has-union, has-single, has-none}
 use Rattle.facts.specs.Flow.{Flow, rows, holds, comers, feeders, enters, gather, incoming}
-use Rattle.facts.specs.Solving.{listed, comerSets, Listing, passing, suffices, Tells}
+use Rattle.facts.specs.Solving.{listed, comerSets, Listing, passing, suffices, Tells, Solved, Answers}
 use Rattle.facts.proofs.Walking.{same-sets, has-listed, holds-comers, comers-passing, passing-none}
 
 pub sets-at : (ss : List NodeSet) (j d : ℕ) → j < length ss → members (getD ss j noSet) ≡ getD (setsOf ss) j d
@@ -187,3 +187,13 @@ pub incoming-told : (f : Flow) (kept : ℕ → ℕ) (ss : List NodeSet) (i : ℕ
     gather (f .join) kept (enters f i) (passing (has (getD (setsOf (take (rows f) ss)) i 0)) 448 0) ≡ incoming f (feeders f) kept i
 unfolding incoming
 incoming-told f kept ss i b told = ap (gather (f .join) kept (enters f i)) (feeders-told f ss i b told)
+
+-- ---- for callers: what the answer of solving means
+
+pub answered : (r : Bool) (f : Flow) (facts facts′ sets sets′ : List NodeSet) → Answers r f facts facts′ sets sets′ → r ≡ true → Solved f facts facts′ sets sets′
+answered true f facts facts′ sets sets′ a e = a
+answered false f facts facts′ sets sets′ a e = absurd (both-ways false refl e)
+
+pub refused : (r : Bool) (f : Flow) (facts facts′ sets sets′ : List NodeSet) → Answers r f facts facts′ sets sets′ → r ≡ false → (facts′ ≡ facts) × (sets′ ≡ sets)
+refused true f facts facts′ sets sets′ a e = absurd (both-ways true e refl)
+refused false f facts facts′ sets sets′ a e = a

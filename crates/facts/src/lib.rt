@@ -48,11 +48,8 @@ pub trait FactKind {
 fn entering<K: FactKind>(kind: &K, i: usize) -> NodeSet
     ensures { λ x. ⌜ members x ≡ enters (K·FactKind .flow (now (kind .entry))) i ⌝ }
 {
-    let first = if kind.backward() {
-        kind.rows().saturating_sub(1)
-    } else {
-        0
-    };
+    let last = kind.rows().saturating_sub(1);
+    let first = if kind.backward() { last } else { 0 };
     if i == first {
         return kind.entry();
     }
@@ -70,20 +67,20 @@ fn fact_at<K: FactKind>(kind: &K, facts: &[NodeSet], j: usize) -> NodeSet
 
 // What comes to row i from the rows that it goes on to.
 fn from_ways<K: FactKind>(kind: &K, facts: &[NodeSet], i: usize) -> NodeSet
-    ensures { λ x. ⌜ members x ≡ gather (K·FactKind .flow (now (kind .entry)) .join) (at (K·FactKind .flow (now (kind .entry))) (setsOf (now (facts .entry)))) (enters (K·FactKind .flow (now (kind .entry))) i) (getD (K·FactKind .flow (now (kind .entry)) .next) i []) ⌝ }
+    ensures { λ x. ⌜ (let f = K·FactKind .flow (now (kind .entry)) in members x ≡ gather (f .join) (at f (setsOf (now (facts .entry)))) (enters f i) (getD (f .next) i [])) ⌝ }
 {
     let mut all = entering(kind, i);
     for k in 0..kind.ways(i) {
         let j = kind.way(i, k);
-        let x = fact_at(kind, facts, j);
-        all = kind.join(all, x);
+        let handed = fact_at(kind, facts, j);
+        all = kind.join(all, handed);
     }
     all
 }
 
 // What comes to row i from the rows of a set, the lowest first.
 fn from_set<K: FactKind>(kind: &K, facts: &[NodeSet], set: NodeSet, i: usize) -> NodeSet
-    ensures { λ x. ⌜ members x ≡ gather (K·FactKind .flow (now (kind .entry)) .join) (at (K·FactKind .flow (now (kind .entry))) (setsOf (now (facts .entry)))) (enters (K·FactKind .flow (now (kind .entry))) i) (passing (has (members set)) 448 0) ⌝ }
+    ensures { λ x. ⌜ (let f = K·FactKind .flow (now (kind .entry)) in members x ≡ gather (f .join) (at f (setsOf (now (facts .entry)))) (enters f i) (passing (has (members set)) 448 0)) ⌝ }
 {
     let mut all = entering(kind, i);
     let mut j = set.next(0);
@@ -106,7 +103,7 @@ fn set_at(sets: &[NodeSet], i: usize) -> NodeSet
 
 // What comes to row i where the rows keep the facts of `facts`; of a row for which there is no room in `comers` only what enters.
 pub fn incoming<K: FactKind>(kind: &K, facts: &[NodeSet], comers: &[NodeSet], i: usize) -> NodeSet
-    ensures { λ x. ⌜ (Tells (K·FactKind .flow (now (kind .entry))) (now (comers .entry)) → members x ≡ incomingOf (K·FactKind .flow (now (kind .entry))) (feeders (K·FactKind .flow (now (kind .entry)))) (at (K·FactKind .flow (now (kind .entry))) (setsOf (take (rowsOf (K·FactKind .flow (now (kind .entry)))) (now (facts .entry))))) i) ⌝ }
+    ensures { λ x. ⌜ (let f = K·FactKind .flow (now (kind .entry)) in Tells f (now (comers .entry)) → members x ≡ incomingOf f (feeders f) (at f (setsOf (take (rowsOf f) (now (facts .entry))))) i) ⌝ }
 {
     let n = kind.rows();
     let held = &facts[..n.min(facts.len())];
@@ -122,8 +119,8 @@ fn visit<K: FactKind>(kind: &K, facts: &mut [NodeSet], comers: &[NodeSet], i: us
     requires rows { ⌜ length (now facts) ≡ rowsOf (K·FactKind .flow (now kind)) ⌝ }
     requires inside { ⌜ i < length (now facts) ⌝ }
     requires told { ⌜ Tells (K·FactKind .flow (now kind)) (now comers) ⌝ }
-    ensures yielded { λ _. ⌜ setsOf (now (facts .exit)) ≡ set (setsOf (now (facts .entry))) i (yields (K·FactKind .flow (now (kind .entry))) (feeders (K·FactKind .flow (now (kind .entry)))) (at (K·FactKind .flow (now (kind .entry))) (setsOf (now (facts .entry)))) i) ⌝ }
-    ensures fresh { λ b. ⌜ b ≡ not (eqb (yields (K·FactKind .flow (now (kind .entry))) (feeders (K·FactKind .flow (now (kind .entry)))) (at (K·FactKind .flow (now (kind .entry))) (setsOf (now (facts .entry)))) i) (at (K·FactKind .flow (now (kind .entry))) (setsOf (now (facts .entry))) i)) ⌝ }
+    ensures yielded { λ _. ⌜ (let f = K·FactKind .flow (now (kind .entry)) in setsOf (now (facts .exit)) ≡ set (setsOf (now (facts .entry))) i (yields f (feeders f) (at f (setsOf (now (facts .entry)))) i)) ⌝ }
+    ensures fresh { λ b. ⌜ (let f = K·FactKind .flow (now (kind .entry)) in b ≡ not (eqb (yields f (feeders f) (at f (setsOf (now (facts .entry)))) i) (at f (setsOf (now (facts .entry))) i))) ⌝ }
 {
     let came = incoming(kind, facts, comers, i);
     let new = kind.step(i, came);
@@ -147,8 +144,8 @@ fn turn<K: FactKind>(kind: &K, k: usize) -> usize
 fn sweep<K: FactKind>(kind: &K, facts: &mut [NodeSet], comers: &[NodeSet]) -> bool
     requires rows { ⌜ length (now facts) ≡ rowsOf (K·FactKind .flow (now kind)) ⌝ }
     requires told { ⌜ Tells (K·FactKind .flow (now kind)) (now comers) ⌝ }
-    ensures visited { λ _. ⌜ setsOf (now (facts .exit)) ≡ swept (K·FactKind .flow (now (kind .entry))) (feeders (K·FactKind .flow (now (kind .entry)))) (turns (K·FactKind .flow (now (kind .entry)))) (setsOf (now (facts .entry))) false .kept ⌝ }
-    ensures fresh { λ b. ⌜ b ≡ swept (K·FactKind .flow (now (kind .entry))) (feeders (K·FactKind .flow (now (kind .entry)))) (turns (K·FactKind .flow (now (kind .entry)))) (setsOf (now (facts .entry))) false .altered ⌝ }
+    ensures visited { λ _. ⌜ (let f = K·FactKind .flow (now (kind .entry)) in setsOf (now (facts .exit)) ≡ swept f (feeders f) (turns f) (setsOf (now (facts .entry))) false .kept) ⌝ }
+    ensures fresh { λ b. ⌜ (let f = K·FactKind .flow (now (kind .entry)) in b ≡ swept f (feeders f) (turns f) (setsOf (now (facts .entry))) false .altered) ⌝ }
 {
     let mut altered = false;
     for k in 0..facts.len() {
@@ -206,10 +203,10 @@ fn list_all<K: FactKind>(kind: &K, sets: &mut [NodeSet])
 
 // Lists the rows that come to each row; a backward kind has no use for them.
 fn list_comers<K: FactKind>(kind: &K, comers: &mut [NodeSet])
-    requires { ⌜ suffices (K·FactKind .flow (now kind)) (rowsOf (K·FactKind .flow (now kind))) (length (now comers)) ≡ true ⌝ }
+    requires { ⌜ (let f = K·FactKind .flow (now kind) in suffices f (rowsOf f) (length (now comers)) ≡ true) ⌝ }
     ensures tells { λ _. ⌜ Tells (K·FactKind .flow (now (kind .entry))) (now (comers .exit)) ⌝ }
     ensures unlent { λ _. ⌜ (K·FactKind .flow (now (kind .entry)) .backward ≡ true → now (comers .exit) ≡ now (comers .entry)) ⌝ }
-    ensures untouched { λ _. ⌜ drop (rowsOf (K·FactKind .flow (now (kind .entry)))) (now (comers .exit)) ≡ drop (rowsOf (K·FactKind .flow (now (kind .entry)))) (now (comers .entry)) ⌝ }
+    ensures untouched { λ _. ⌜ (let f = K·FactKind .flow (now (kind .entry)) in drop (rowsOf f) (now (comers .exit)) ≡ drop (rowsOf f) (now (comers .entry))) ⌝ }
 {
     if kind.backward() {
         return;

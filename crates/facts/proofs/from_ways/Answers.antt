@@ -16,7 +16,7 @@ loop-k-again g c =
     let k = c .loop-k .k in
     let kept = at f (setsOf (c .args .facts .now)) in
     let x : members (c .join-all .result) ≡ f .join (members (c .loop-k .all)) (kept (getD js k 0)) =
-    c .join-all .ensures ∙ ap (f .join (members (c .loop-k .all))) (c .fact-at-x .ensures ∙ ap kept (c .way-j .ensures)) in
+    c .join-all .ensures ∙ ap (f .join (members (c .loop-k .all))) (c .fact-at-handed .ensures ∙ ap kept (c .way-j .ensures)) in
     let lt : k < length js = omega arith in
     ap (λ (y : ℕ). gather (f .join) kept y (drop (k + 1) js)) x ∙ sym (gather-more (f .join) kept (members (c .loop-k .all)) js k lt) ∙ c .loop-k .inv
 
