@@ -1,1 +1,2 @@
-// to come
+pub mod graph;
+pub mod kinds;

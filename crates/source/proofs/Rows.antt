@@ -25,10 +25,10 @@ use Rattle.faults.specs.declared.RowFault.the-variants.{Bits, Last}
 use Rattle.rows.specs.declared.Row.{Row}
 use Rattle.rows.specs.Rows.{shape, endRow, Program}
 use Rattle.source.specs.declared.header.Header.{Header}
-use Rattle.source.specs.declared.Source.{Source}
+use Rattle.source.specs.declared.program.Source.{Source}
 use Rattle.source.specs.Bits.{field}
 use Rattle.source.specs.Reading.{varsIn, countIn, classIn, classesIn, classOf, rowPlace, wordIn, rowIn, faultIn, rowOf, rowFault, headerFault, classFault, rowsFault, lastFault, programIn, reading}
-use Rattle.source.specs.Results.{Judged, Heads, RowNext, Rowed, programOf, asProgram}
+use Rattle.source.specs.Results.{Judged, Heads, RowNext, Rowed, programBy, asProgram}
 
 -- what the loop over the rows knows after i of them
 pub record Rowing (bs : List ℕ) (rs : List Row) (i : ℕ) : Type 0 where
@@ -108,7 +108,7 @@ classes-are bs cs h l = fill-by-all (classIn bs) (take (varsIn bs) cs) (varsIn b
 pub reading-fine : (bs cs : List ℕ) (rs : List Row) (h : Header) → headerFault bs ≡ None → classFault bs ≡ None → rowsFault bs ≡ None → Heads bs h →
     ((v : ℕ) → getD cs v 0 ≡ classOf bs v) → length cs ≡ 64 → ((k : ℕ) → k < countIn bs → getD rs k endRow ≡ rowIn bs k) → length rs ≡ 128 →
     shape (rowIn bs (h .count - 1) .op) .falls ≡ false →
-    _≡_ {A = Result Program RowFault} (Ok (programOf (record { vars = h .vars; count = h .count; classes = cs; rows = rs }))) (reading bs)
+    _≡_ {A = Result Program RowFault} (Ok (programBy (h .vars) (h .count) cs rs)) (reading bs)
 unfolding reading lastFault programIn
 reading-fine bs cs rs h hn cn rn hd sc lc sr lr f =
     let ls = rows-are bs rs sr (omega (arith, hd .count, h .most)) in

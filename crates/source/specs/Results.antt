@@ -13,7 +13,7 @@ use Rattle.faults.specs.declared.RowFault.{RowFault}
 use Rattle.rows.specs.declared.Row.{Row}
 use Rattle.rows.specs.Rows.{Program, endRow}
 use Rattle.source.specs.declared.header.Header.{Header}
-use Rattle.source.specs.declared.Source.{Source}
+use Rattle.source.specs.declared.program.Source.{Source}
 use Rattle.source.specs.Bits.{field}
 use Rattle.source.specs.Reading.{varsIn, countIn, classOf, classBytes, countsFault, headerFault, classFault, rowOf, rowFault, sizeOf, rowPlace, rowIn, faultIn, rowsFault}
 
@@ -58,9 +58,13 @@ abbrev pub Rowed : List ℕ → Result (List Row) RowFault → Type 0
 Rowed bs (Ok rs) = (rowsFault bs ≡ None) × ((k : ℕ) → k < countIn bs → getD rs k endRow ≡ rowIn bs k) × (length rs ≡ 128)
 Rowed bs (Err e) = rowsFault bs ≡ Some e
 
+-- the program in the first v of an array of classes and the first n of an array of rows
+abbrev pub programBy : ℕ → ℕ → List ℕ → List Row → Program
+programBy v n classes rows = record { vars = v; classes = take v classes; rows = take n rows }
+
 -- the program that a source holds
 abbrev pub programOf : Source → Program
-programOf s = record { vars = s .vars; classes = take (s .vars) (s .classes); rows = take (s .count) (s .rows) }
+programOf s = programBy (s .vars) (s .count) (s .classes) (s .rows)
 
 -- an answer with the program of its source
 abbrev pub asProgram : Result Source RowFault → Result Program RowFault

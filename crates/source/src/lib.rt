@@ -1,5 +1,6 @@
 pub mod bits;
 pub mod header;
+pub mod program;
 
 ghost use mathlib.Core.Path.{_≡_};
 ghost use mathlib.Core.Bool.{Bool, cond, _&&_};
@@ -15,21 +16,13 @@ use faults::BitFault;
 use faults::RowFault;
 use faults::RowFaultFromBits;
 use header::Header;
+use program::Source;
 use rows::Op;
 use rows::Row;
 
 const MOST_VARIABLES: usize = 64;
 
 const MOST_ROWS: usize = 128;
-
-// A source program as a file gives it: the first `vars` of the classes and the first `count` of the rows.
-#[derive(Clone, Copy)]
-pub struct Source {
-    pub vars: usize,
-    pub count: usize,
-    pub classes: [u8; 64],
-    pub rows: [Row; 128],
-}
 
 fn read_header(reader: &mut BitReader, size: usize) -> Result<Header, BitFault>
     requires whole { ⌜ size ≡ length (now (now reader .file)) ⌝ }
