@@ -1,0 +1,36 @@
+-- What is answered to a file, as a line of words.
+use mathlib.Core.List.{List, [], _∷_, _++_}
+use Prim.Native.Nat.{ℕ}
+use lib.Chars.{codes}
+use lib.ListN.{length}
+use Rattle.std.specs.Written.{decimal}
+use Rattle.std.specs.declared.result.Result.{Result}
+use Rattle.std.specs.declared.result.Result.the-variants.{Ok, Err}
+use Rattle.faults.specs.declared.Layer.{Layer}
+use Rattle.faults.specs.declared.Layer.the-variants.{Bits, Rows, Program as Whole}
+use Rattle.faults.specs.declared.Refusal.{Refusal}
+use Rattle.faults.specs.declared.ProgramFault.{ProgramFault}
+use Rattle.faults.specs.Refusals.{programRefusal}
+use Rattle.rows.specs.Rows.{Program}
+use Rattle.answers.specs.declared.Verdict.{Verdict}
+use Rattle.answers.specs.declared.Verdict.the-variants.{Admitted, Refused}
+
+-- the name of a layer
+abbrev pub layerName : Layer → List ℕ
+layerName Bits = codes "bits"
+layerName Rows = codes "rows"
+layerName Whole = codes "program"
+
+-- the words of a verdict
+abbrev pub verdictText : Verdict → List ℕ
+verdictText (Admitted v n) = codes "admitted " ++ (decimal v ++ (codes " " ++ decimal n))
+verdictText (Refused r) = codes "refused " ++ (decimal (r .number) ++ (codes " " ++ (decimal (r .place) ++ (codes " " ++ layerName (r .layer)))))
+
+-- the verdict on a file, from its program or its first fault
+abbrev pub verdictOf : Result Program ProgramFault → Verdict
+verdictOf (Ok p) = Admitted (p .vars) (length (p .rows))
+verdictOf (Err e) = Refused (programRefusal e)
+
+-- the line that answers the word of a file
+abbrev pub answerLine : List ℕ → Verdict → List ℕ
+answerLine word v = word ++ (codes " " ++ (verdictText v ++ 10 ∷ []))

@@ -1,0 +1,58 @@
+ghost use mathlib.Core.Path.{_≡_};
+ghost use mathlib.Core.List.{_++_};
+ghost use Rattle.std.specs.Of.Vec.{vec-items};
+ghost use Rattle.std.specs.Vec.{made};
+ghost use Rattle.std.specs.declared.option.Option.the-variants.{Some};
+ghost use Rattle.answers.specs.Answers.{layerName, verdictText, answerLine};
+use faults::Layer;
+use faults::Refusal;
+use std::alloc::AllocError;
+use std::alloc::Global;
+use std::fmt;
+
+pub fn layer_name(layer: Layer) -> &'static str
+    ensures { λ r. ⌜ now r ≡ layerName layer ⌝ }
+{
+    match layer {
+        Layer::Bits => "bits",
+        Layer::Rows => "rows",
+        Layer::Program => "program",
+    }
+}
+
+// What is said of a file: how many variables and rows its program has, or why there is none.
+#[derive(Clone, Copy)]
+pub enum Verdict {
+    Admitted(usize, usize),
+    Refused(Refusal),
+}
+
+pub impl fmt::Display for Verdict as VerdictDisplay {
+    ghost shown = { λ v. Some (verdictText v) };
+
+    fn fmt<W: fmt::Write>(&self, f: &mut fmt::Formatter<W>) -> fmt::Result {
+        match *self {
+            Verdict::Admitted(vars, rows) => write!(f, "admitted {vars} {rows}"),
+            Verdict::Refused(refusal) => {
+                let number = refusal.number;
+                let place = refusal.place;
+                let layer = layer_name(refusal.layer);
+                write!(f, "refused {number} {place} {layer}")
+            }
+        }
+    }
+}
+
+// Adds the line that answers the word of a file.
+pub fn write_answer(
+    heap: Global,
+    word: &[u8],
+    verdict: Verdict,
+    out: &mut Vec<u8>,
+) -> Result<(), AllocError>
+    ensures { λ r. ⌜ made r (λ _. vec-items (now (out .exit)) ≡ vec-items (now (out .entry)) ++ answerLine (now (word .entry)) verdict) ⌝ }
+{
+    let tail = format!(heap, " {verdict}\n")?;
+    out.extend_from_slice(word)?;
+    out.extend_from_slice(tail.as_bytes())
+}
