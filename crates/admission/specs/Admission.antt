@@ -11,7 +11,7 @@ use Rattle.std.specs.declared.result.Result.the-variants.{Ok, Err}
 use Rattle.counting.specs.Counting.{least}
 use Rattle.faults.specs.declared.RowFault.{RowFault}
 use Rattle.faults.specs.declared.ProgramFault.{ProgramFault}
-use Rattle.faults.specs.declared.ProgramFault.the-variants.{Rows, Unreached, Unwritten, Memory}
+use Rattle.faults.specs.declared.ProgramFault.the-variants.{Rows, Unreached, Unwritten}
 use Rattle.rows.specs.Rows.{Program}
 use Rattle.source.specs.Reading.{reading}
 use Rattle.admission.specs.Kinds.{reached, sure}
@@ -41,11 +41,3 @@ unfoldable pub admitting : List ℕ → Result Program ProgramFault
 unfolding reading factFault
 admitting bs = judged (reading bs)
 
--- the sizes of the three parts of working memory, in node sets
-abbrev pub partSize : ℕ → ℕ
-partSize k = cond (ltb k 1) 512 448
-
--- the lowest part of working memory that is too short
-abbrev pub memoryFault : ℕ → ℕ → ℕ → Option ProgramFault
-memoryFault a b c =
-    cond (ltb a (partSize 0)) (Some (Memory 0)) (cond (ltb b (partSize 1)) (Some (Memory 1)) (cond (ltb c (partSize 2)) (Some (Memory 2)) None))

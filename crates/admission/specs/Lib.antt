@@ -1,3 +1,5 @@
 pub mod Kinds
 pub mod Admission
-pub mod Paths
+pub mod Laws
+pub mod Memory
+pub mod Results

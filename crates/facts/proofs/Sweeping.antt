@@ -101,7 +101,7 @@ pub solved-holds : (f : Flow) (Q : ℕ → ℕ → Type 0) → ((i : ℕ) → Q 
     ((k : ℕ → ℕ) → ((j : ℕ) → Q j (k j)) → (i : ℕ) → i < rows f → Q i (yields f (feeders f) k i)) →
     (i : ℕ) → Q i (at f (solved f) i)
 unfolding solved
-solved-holds f Q low more = solve-holds f (feeders f) Q more (f .height * rows f + 1) (replicate (rows f) (f .least))
+solved-holds f Q low more = solve-holds f (feeders f) Q more _ (replicate (rows f) (f .least))
     (λ j. rw (nothing (rows f) j (f .least) (f .least) refl) (low j))
 
 pub sweep-length : (f : Flow) (table : List (List ℕ)) (is kept : List ℕ) (b : Bool) → length (sweep f table is kept b .kept) ≡ length kept
@@ -287,42 +287,44 @@ module _ (f : Flow) (laws : Lawful f) (table : List (List ℕ)) where
         long = length-replicate (rows f) (f .least);
       }
 
-  -- what holds before each sweep: some fuel leads on to the answer, and would suffice
-  pub record Going (kept : List ℕ) : Type 0 where
+  -- what holds before each sweep: some fuel leads on to the end, and would suffice
+  pub record Going (end kept : List ℕ) : Type 0 where
     pub rising : Rising kept
     pub fuel : ℕ
-    pub leads : solve f table fuel kept ≡ solve f table (f .height * rows f + 1) (replicate (rows f) (f .least))
+    pub leads : solve f table fuel kept ≡ end
     pub enough : f .height * rows f < fuel + total kept
 
-  pub going-start : Going (replicate (rows f) (f .least))
-  going-start = record { rising = start-rising; fuel = f .height * rows f + 1; leads = refl; enough = omega arith }
-
-  module _ (kept : List ℕ) (w : Going kept) where
+  module _ (end kept : List ℕ) (w : Going end kept) where
     next-fuel : (m : ℕ) → f .height * rows f < m + total kept → (p : ℕ) × (m ≡ suc p)
     next-fuel zero h = absurd (omega (arith, total-capped kept))
     next-fuel (suc p) h = (p, refl)
 
-    pub going-more : sweep f table (turns f) kept false .altered ≡ true → Going (sweep f table (turns f) kept false .kept) × (total kept < total (sweep f table (turns f) kept false .kept))
+    pub going-more : sweep f table (turns f) kept false .altered ≡ true →
+        Going end (sweep f table (turns f) kept false .kept) × (total kept < total (sweep f table (turns f) kept false .kept))
     unfolding solve
     going-more a =
         let s = sweep-rising (turns f) kept false (turns-below f) (w .rising) in
         let (p, e) = next-fuel (w .fuel) (w .enough) in
         let up : total kept < total (sweep f table (turns f) kept false .kept) = elim (s .more a) [ inl c ↦ absurd (both-ways false refl c) | inr c ↦ c ] in
-        let on : solve f table (suc p) kept ≡ solve f table (f .height * rows f + 1) (replicate (rows f) (f .least)) = subst (λ (m : ℕ). solve f table m kept ≡ _) e (w .leads) in
+        let on : solve f table (suc p) kept ≡ end = subst (λ (m : ℕ). solve f table m kept ≡ end) e (w .leads) in
         (record { rising = s .rising; fuel = p; leads = sym (cond-true _ _ _ a) ∙ on; enough = omega (arith, w .enough, e, up) }, up)
 
-    pub going-end : sweep f table (turns f) kept false .altered ≡ false → sweep f table (turns f) kept false .kept ≡ solve f table (f .height * rows f + 1) (replicate (rows f) (f .least))
+    pub going-end : sweep f table (turns f) kept false .altered ≡ false → sweep f table (turns f) kept false .kept ≡ end
     unfolding solve
     going-end a =
         let (p, e) = next-fuel (w .fuel) (w .enough) in
-        let on : solve f table (suc p) kept ≡ solve f table (f .height * rows f + 1) (replicate (rows f) (f .least)) = subst (λ (m : ℕ). solve f table m kept ≡ _) e (w .leads) in
+        let on : solve f table (suc p) kept ≡ end = subst (λ (m : ℕ). solve f table m kept ≡ end) e (w .leads) in
         sym (cond-false _ _ _ a) ∙ on
+
+-- the definition's fuel suffices
+pub going-start : (f : Flow) (laws : Lawful f) → Going f laws (feeders f) (solved f) (replicate (rows f) (f .least))
+unfolding solved
+going-start f laws = record { rising = start-rising f laws (feeders f); fuel = _; leads = refl; enough = omega arith }
 
 -- the sweeps' answer solves the equations, and is the least that does
 pub solved-least : (f : Flow) → Lawful f → Least f (at f (solved f))
-unfolding solved
 solved-least f laws = record {
-  solves = solve-ends f laws (feeders f) (f .height * rows f + 1) (replicate (rows f) (f .least)) (start-rising f laws (feeders f)) (omega arith);
+  solves = (let start = going-start f laws in subst (λ (xs : List ℕ). Solves f (at f xs)) (start .leads) (solve-ends f laws (feeders f) (start .fuel) (replicate (rows f) (f .least)) (start .rising) (start .enough)));
   under = λ y closed i lt. solved-holds f (λ j x. f .below x (y j) ≡ true) (λ j. laws .bottom (y j))
       (λ k h j l. laws .chain _ _ _ (yields-steady f laws (feeders f) k y h j) (closed j l)) i;
 }

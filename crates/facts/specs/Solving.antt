@@ -32,7 +32,7 @@ passing t (suc n) j = let rest = passing t n (suc j) in cond (t j) (j ∷ rest) 
 
 -- whether a memory of so many facts and so many sets of comers will do; a backward kind wants no comers
 abbrev pub suffices : Flow → ℕ → ℕ → Bool
-suffices f kept comers = leb (rows f) kept && (f .backward || (leb (rows f) comers && leb (rows f) 448))
+suffices f facts sets = leb (rows f) facts && (f .backward || (leb (rows f) sets && leb (rows f) 448))
 
 -- for a forward kind: a memory holds the rows that come to each row
 abbrev pub Tells : Flow → List NodeSet → Type 0

@@ -1,13 +1,13 @@
 ghost use mathlib.Core.Path.{_≡_};
-ghost use mathlib.Core.Bool.{Bool, true, false, not, _&&_, _||_};
-ghost use mathlib.Core.List.{List, [], _∷_};
+ghost use mathlib.Core.Bool.{true, false, not};
+ghost use mathlib.Core.List.{[], _∷_};
 ghost use Prim.Native.Nat.{ℕ, _<_, _≤_};
 ghost use lib.Dec.{eqb};
 ghost use lib.ListN.{length, getD, set, take, drop};
 ghost use Rattle.sets.specs.Sets.{has};
-ghost use Rattle.sets.specs.Words.{members, setsOf, noSet};
-ghost use Rattle.facts.specs.Flow.{Flow, Lawful, rows as rowsOf, holds, feeders, turns, enters, at, gather, incoming as incomingOf, yields, sweep as swept, solved};
-ghost use Rattle.facts.specs.Solving.{Listing, comerSets, passing, suffices, Tells, Solved, Answers};
+ghost use Rattle.sets.specs.Words.{members, setsOf};
+ghost use Rattle.facts.specs.Flow.{Flow, Lawful, rows as rowsOf, feeders, turns, enters, at, gather, incoming as incomingOf, yields, sweep as swept, solved};
+ghost use Rattle.facts.specs.Solving.{Listing, comerSets, passing, suffices, Tells, Answers};
 use sets::NodeSet;
 use sets::clear;
 
@@ -129,7 +129,7 @@ fn visit<K: FactKind>(kind: &K, facts: &mut [NodeSet], comers: &[NodeSet], i: us
     !new.equals(&old)
 }
 
-// The row whose turn is the k-th of n.
+// The row whose turn is the k-th.
 fn turn<K: FactKind>(kind: &K, k: usize) -> usize
     requires { ⌜ k < rowsOf (K·FactKind .flow (now kind)) ⌝ }
     ensures { λ i. ⌜ i ≡ getD (turns (K·FactKind .flow (now (kind .entry)))) k 0 ⌝ }
@@ -190,6 +190,7 @@ fn list_ways<K: FactKind>(kind: &K, sets: &mut [NodeSet], j: usize)
     }
 }
 
+// Lists the rows that come to each row, whatever the memory held.
 fn list_all<K: FactKind>(kind: &K, sets: &mut [NodeSet])
     requires rows { ⌜ length (now sets) ≡ rowsOf (K·FactKind .flow (now kind)) ⌝ }
     requires few { ⌜ length (now sets) ≤ 448 ⌝ }
@@ -201,7 +202,7 @@ fn list_all<K: FactKind>(kind: &K, sets: &mut [NodeSet])
     }
 }
 
-// Lists the rows that come to each row; a backward kind has no use for them.
+// Lists the comers of a forward kind; a backward one has no use for them.
 fn list_comers<K: FactKind>(kind: &K, comers: &mut [NodeSet])
     requires { ⌜ (let f = K·FactKind .flow (now kind) in suffices f (rowsOf f) (length (now comers)) ≡ true) ⌝ }
     ensures tells { λ _. ⌜ Tells (K·FactKind .flow (now (kind .entry))) (now (comers .exit)) ⌝ }
@@ -215,11 +216,11 @@ fn list_comers<K: FactKind>(kind: &K, comers: &mut [NodeSet])
     list_all(kind, &mut comers[..n]);
 }
 
-fn memory_suffices<K: FactKind>(kind: &K, kept: usize, comers: usize) -> bool
-    ensures { λ b. ⌜ b ≡ suffices (K·FactKind .flow (now (kind .entry))) kept comers ⌝ }
+fn memory_suffices<K: FactKind>(kind: &K, facts: usize, comers: usize) -> bool
+    ensures { λ b. ⌜ b ≡ suffices (K·FactKind .flow (now (kind .entry))) facts comers ⌝ }
 {
     let n = kind.rows();
-    n <= kept && (kind.backward() || (n <= comers && n <= NodeSet::CAPACITY))
+    n <= facts && (kind.backward() || (n <= comers && n <= NodeSet::CAPACITY))
 }
 
 // Solves the equations of a kind in the memory lent, if it suffices: one set for each row, and for a forward kind another.

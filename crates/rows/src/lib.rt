@@ -2,7 +2,7 @@ ghost use mathlib.Core.Path.{_≡_};
 ghost use mathlib.Core.Bool.{cond};
 ghost use Prim.Native.Nat.{_≤_};
 ghost use lib.Dec.{ltb};
-ghost use lib.ListN.{take};
+ghost use lib.ListN.{length, take};
 ghost use Rattle.std.specs.declared.option.Option.the-variants.{Some, None};
 ghost use Rattle.sets.specs.Sets.{union, single, when};
 ghost use Rattle.sets.specs.Words.{members};
@@ -246,6 +246,8 @@ pub struct Row {
 pub struct Ways {
     pub count: usize,
     pub rows: [usize; 2],
+    ghost few: { count ≤ 2 },
+    ghost pair: { length rows ≡ 2 },
 }
 
 impl Row {
@@ -277,8 +279,7 @@ impl Row {
 
     // The rows that may follow this one, which stands at row i: its target before the row below.
     pub fn next(self, i: u16) -> Ways
-        ensures way { λ r. ⌜ take (r .count) (r .rows) ≡ nextOf i self ⌝ }
-        ensures few { λ r. ⌜ r .count ≤ 2 ⌝ }
+        ensures { λ r. ⌜ take (r .count) (r .rows) ≡ nextOf i self ⌝ }
     {
         let shape = self.op.shape();
         let below = i as usize + 1;

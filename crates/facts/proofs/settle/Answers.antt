@@ -19,7 +19,7 @@ loop-holds g c =
     let k = c .args .kind .now in
     let f = g .K·FactKind .flow k in
     let e = fill-all (c .loop-i .facts) (c .loop-i .i) (rows f) (f .least) (omega (arith, c .pre .rows)) (omega (arith, c .pre .rows)) (omega (arith, c .pre .rows)) (c .loop-i .inv) in
-    subst (Going f (g .K·FactKind .lawful k) (feeders f)) (sym e) (going-start f (g .K·FactKind .lawful k) (feeders f))
+    subst (Going f (g .K·FactKind .lawful k) (feeders f) (solved f)) (sym e) (going-start f (g .K·FactKind .lawful k))
 
 pub loop-less : need.loop-less
 loop-less g c =
@@ -27,7 +27,7 @@ loop-less g c =
     let f = g .K·FactKind .flow k in
     let laws = g .K·FactKind .lawful k in
     let a : sweep f (feeders f) (turns f) (setsOf (c .loop .facts)) false .altered ≡ true = sym (c .sweep .ensures .fresh) ∙ c .loop-test .taken in
-    let up = going-more f laws (feeders f) (setsOf (c .loop .facts)) (c .loop .inv) a .1 in
+    let up = going-more f laws (feeders f) (solved f) (setsOf (c .loop .facts)) (c .loop .inv) a .1 in
     let e : total f laws (feeders f) (setsOf (c .sweep .last .facts)) ≡ total f laws (feeders f) (sweep f (feeders f) (turns f) (setsOf (c .loop .facts)) false .kept) =
     ap (total f laws (feeders f)) (c .sweep .ensures .visited) in
     let cap = total-capped f laws (feeders f) (setsOf (c .sweep .last .facts)) in
@@ -39,12 +39,11 @@ loop-again g c =
     let f = g .K·FactKind .flow k in
     let laws = g .K·FactKind .lawful k in
     let a : sweep f (feeders f) (turns f) (setsOf (c .loop .facts)) false .altered ≡ true = sym (c .sweep .ensures .fresh) ∙ c .loop-test .taken in
-    subst (Going f laws (feeders f)) (sym (c .sweep .ensures .visited)) (going-more f laws (feeders f) (setsOf (c .loop .facts)) (c .loop .inv) a .0)
+    subst (Going f laws (feeders f) (solved f)) (sym (c .sweep .ensures .visited)) (going-more f laws (feeders f) (solved f) (setsOf (c .loop .facts)) (c .loop .inv) a .0)
 
 pub returns : need.returns
-unfolding solved
 returns g c =
     let k = c .args .kind .now in
     let f = g .K·FactKind .flow k in
     let a : sweep f (feeders f) (turns f) (setsOf (c .loop .facts)) false .altered ≡ false = sym (c .sweep .ensures .fresh) ∙ c .loop-test .left in
-    c .sweep .ensures .visited ∙ going-end f (g .K·FactKind .lawful k) (feeders f) (setsOf (c .loop .facts)) (c .loop .inv) a
+    c .sweep .ensures .visited ∙ going-end f (g .K·FactKind .lawful k) (feeders f) (solved f) (setsOf (c .loop .facts)) (c .loop .inv) a
