@@ -6,6 +6,11 @@ ghost use Rattle.std.specs.declared.option.Option.the-variants.{Some};
 ghost use Rattle.answers.specs.Answers.{layerName, verdictText, answerLine};
 use faults::Layer;
 use faults::Refusal;
+use hex::first_word;
+use hex::read_file;
+use sets::NodeSet;
+use stages::Admitted;
+use stages::admit;
 use std::alloc::AllocError;
 use std::alloc::Global;
 use std::fmt;
@@ -55,4 +60,46 @@ pub fn write_answer(
     let tail = format!(heap, " {verdict}\n")?;
     out.extend_from_slice(word)?;
     out.extend_from_slice(tail.as_bytes())
+}
+
+// The three parts of working memory that admission is lent.
+#[derive(Drop)]
+pub struct Memory {
+    sets: [NodeSet; 512],
+    edges: [NodeSet; 448],
+    hard: [NodeSet; 448],
+}
+
+impl Memory {
+    pub fn new() -> Memory {
+        Memory {
+            sets: [NodeSet::EMPTY; 512],
+            edges: [NodeSet::EMPTY; 448],
+            hard: [NodeSet::EMPTY; 448],
+        }
+    }
+}
+
+pub fn judge(program: &mut Admitted, memory: &mut Memory, file: &[u8]) -> Verdict {
+    match admit(program, file, &mut memory.sets, &mut memory.edges, &mut memory.hard) {
+        Ok(()) => Verdict::Admitted(program.vars(), program.count()),
+        Err(fault) => Verdict::Refused(fault.refusal()),
+    }
+}
+
+// Adds the line that answers a line of cases; `file` is room for the file that the line spells.
+pub fn answer(
+    heap: Global,
+    line: &[u8],
+    program: &mut Admitted,
+    memory: &mut Memory,
+    file: &mut Vec<u8>,
+    out: &mut Vec<u8>,
+) -> Result<(), AllocError> {
+    let word = first_word(line);
+    if !read_file(word, file)? {
+        return out.extend_from_slice(b"bad case\n");
+    }
+    let verdict = judge(program, memory, file.as_slice());
+    write_answer(heap, word, verdict, out)
 }
