@@ -59,7 +59,7 @@ unreached-at rs facts none i r lt room same z h =
     let len : n ≡ length rs = nexts-length 0 rs in
     let inside : i < length (take n facts) = rw (length-take-le n facts (omega (arith, len))) (omega (arith, len)) in
     let here : members (getD facts i noSet) ≡ at (reach rs) (solved (reach rs)) i =
-      ap members (sym (getD-take n facts i noSet (omega (arith, len)))) ∙ sets-at (take n facts) i 0 inside ∙ ap (λ (xs : List ℕ). getD xs i 0) same in
+    ap members (sym (getD-take n facts i noSet (omega (arith, len)))) ∙ sets-at (take n facts) i 0 inside ∙ ap (λ (xs : List ℕ). getD xs i 0) same in
     let zero : members none ≡ 0 = ap members z ∙ members-empty in
     h ∙ rw (here, zero) (sym (twice _))
 
@@ -98,13 +98,16 @@ part-rows n rs = let e : n - 0 ≡ n = omega arith in ap (λ (m : ℕ). take m r
 -- parts without a short one
 pub roomy : (m : Parts) → None ≡ shortPart m → (512 ≤ length (m .first)) × (448 ≤ length (m .second)) × (448 ≤ length (m .third))
 roomy m h =
-    elim (cases-lt (length (m .first)) 512)
-      [ inl a ↦ absurd (none-some (Memory 0) (h ∙ rw (lt-ltb (length (m .first)) 512 a)))
-      | inr a ↦ elim (cases-lt (length (m .second)) 448)
-        [ inl b ↦ absurd (none-some (Memory 1) (h ∙ rw (le-ltb (length (m .first)) 512 a, lt-ltb (length (m .second)) 448 b)))
-        | inr b ↦ elim (cases-lt (length (m .third)) 448)
-          [ inl d ↦ absurd (none-some (Memory 2) (h ∙ rw (le-ltb (length (m .first)) 512 a, le-ltb (length (m .second)) 448 b, lt-ltb (length (m .third)) 448 d)))
-          | inr d ↦ (a, b, d) ] ] ]
+    elim (cases-lt (length (m .first)) 512) [
+      | inl a ↦ absurd (none-some (Memory 0) (h ∙ rw (lt-ltb (length (m .first)) 512 a)))
+      | inr a ↦ elim (cases-lt (length (m .second)) 448) [
+        | inl b ↦ absurd (none-some (Memory 1) (h ∙ rw (le-ltb (length (m .first)) 512 a, lt-ltb (length (m .second)) 448 b)))
+        | inr b ↦ elim (cases-lt (length (m .third)) 448) [
+          | inl d ↦ absurd (none-some (Memory 2) (h ∙ rw (le-ltb (length (m .first)) 512 a, le-ltb (length (m .second)) 448 b, lt-ltb (length (m .third)) 448 d)))
+          | inr d ↦ (a, b, d)
+        ]
+      ]
+    ]
   where
     none-some : (e : ProgramFault) → None ≡ Some e → ⊥
     none-some e k = let z : _≡_ {A = ℕ} 0 1 = cc in omega arith

@@ -40,4 +40,3 @@ judged (Ok p) = faultless (factFault p) p
 unfoldable pub admitting : List ℕ → Result Program ProgramFault
 unfolding reading factFault
 admitting bs = judged (reading bs)
-

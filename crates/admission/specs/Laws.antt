@@ -20,4 +20,4 @@ pub initialisation-lawful : (vars : ℕ) (rows : List Row) → Lawful (initialis
 initialisation-lawful vars rows =
     let adds : ℕ → ℕ = λ i. meet (setOf (writes (rowAt rows i))) (upTo vars) in
     ensured-lawful vars (nexts rows) false 0 (λ i x. union x (adds i)) (pow-pos vars) (added-steady vars adds)
-      (added-inside vars adds (λ i. omega (arith, and-le-r (setOf (writes (rowAt rows i))) (upTo vars), pow-pos vars)))
+    (added-inside vars adds (λ i. omega (arith, and-le-r (setOf (writes (rowAt rows i))) (upTo vars), pow-pos vars)))

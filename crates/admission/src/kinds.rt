@@ -21,7 +21,10 @@ impl<'a> Graph<'a> {
         if i < self.rows.len() {
             return self.rows[i].next(i as u16);
         }
-        Ways { count: 0, rows: [0, 0] }
+        Ways {
+            count: 0,
+            rows: [0, 0],
+        }
     }
 
     fn len(&self) -> usize

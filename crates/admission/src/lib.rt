@@ -55,7 +55,11 @@ fn first_unsure(graph: Graph, vars: usize, facts: &mut [NodeSet], comers: &mut [
     let n = graph.rows.len();
     for i in 0..n {
         let written = incoming(&kind, facts, comers, i);
-        if !graph.rows[i].reads().minus(written).equals(&NodeSet::empty()) {
+        if !graph
+            .rows[i]
+            .reads()
+            .minus(written)
+            .equals(&NodeSet::empty()) {
             return i;
         }
     }
@@ -63,7 +67,11 @@ fn first_unsure(graph: Graph, vars: usize, facts: &mut [NodeSet], comers: &mut [
 }
 
 // The first fault of the rows together. The facts are worked out in the first sets of the memory.
-fn fact_fault(source: &Source, facts: &mut [NodeSet], comers: &mut [NodeSet]) -> Option<ProgramFault>
+fn fact_fault(
+    source: &Source,
+    facts: &mut [NodeSet],
+    comers: &mut [NodeSet],
+) -> Option<ProgramFault>
     requires { ⌜ 128 ≤ length (now facts) ⌝ ∗ ⌜ 128 ≤ length (now comers) ⌝ }
     ensures fault { λ r. ⌜ r ≡ factFault (programOf (now (source .entry))) ⌝ }
     ensures past { λ _. ⌜ drop 128 (now (facts .exit)) ≡ drop 128 (now (facts .entry)) ⌝ ∗ ⌜ drop 128 (now (comers .exit)) ≡ drop 128 (now (comers .entry)) ⌝ }
@@ -99,7 +107,12 @@ fn short_part(first: &[NodeSet], second: &[NodeSet], third: &[NodeSet]) -> Optio
 
 // The program of a file, if its rows are all reached and read only what is surely written, else the first fault.
 // The memory is three parts of at least 512, 448 and 448 node sets; what it holds counts for nothing.
-pub fn admitted(file: &[u8], first: &mut [NodeSet], second: &mut [NodeSet], third: &mut [NodeSet]) -> Result<Source, ProgramFault>
+pub fn admitted(
+    file: &[u8],
+    first: &mut [NodeSet],
+    second: &mut [NodeSet],
+    third: &mut [NodeSet],
+) -> Result<Source, ProgramFault>
     ensures { λ r. ⌜ answer (asAdmitted r) (parts (now (first .exit)) (now (second .exit)) (now (third .exit))) ≡ answered (now (file .entry)) (parts (now (first .entry)) (now (second .entry)) (now (third .entry))) ⌝ }
 {
     if let Some(fault) = short_part(first, second, third) {

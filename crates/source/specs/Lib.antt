@@ -1,4 +1,3 @@
 pub mod Bits
 pub mod Reading
-pub mod Packing
 pub mod Results

@@ -1,4 +1,6 @@
+ghost use mathlib.Core.Path.{_≡_};
 ghost use Prim.Native.Nat.{_≤_};
+ghost use lib.ListN.{length};
 use rows::Row;
 
 // A source program as a file gives it: the first `vars` of the classes and the first `count` of the rows.
@@ -11,4 +13,5 @@ pub struct Source {
     ghost few: { vars ≤ 64 },
     ghost some: { 1 ≤ count },
     ghost most: { count ≤ 128 },
+    ghost whole: { (length classes ≡ 64) × (length rows ≡ 128) },
 }

@@ -30,7 +30,7 @@ loop-i-again c =
     let few : rowsOf (reach rs) ≤ 128 = omega (arith, nexts-length 0 rs, c .pre .0) in
     let s = settled (reach rs) (c .solve .result) _ _ _ _ refl few (c .pre .1 .0) (c .pre .1 .1) (c .solve .ensures .room) (c .solve .ensures .answer) in
     below-more _ _ (c .loop-i .inv)
-      (sym (unreached-at rs (c .solve .last .facts) (c .empty .result) (c .loop-i .i) false (c .loop-i-test .taken) (omega arith) (s .facts) (c .empty .ensures) (c .if-equals .ensures tt)))
+    (sym (unreached-at rs (c .solve .last .facts) (c .empty .result) (c .loop-i .i) false (c .loop-i-test .taken) (omega arith) (s .facts) (c .empty .ensures) (c .if-equals .ensures tt)))
 
 pub returns : need.returns
 returns c =

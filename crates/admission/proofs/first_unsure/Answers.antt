@@ -32,7 +32,7 @@ loop-i-again c =
     let few : rowsOf (initialisation vars rs) ≤ 128 = omega (arith, nexts-length 0 rs, c .pre .0) in
     let s = settled (initialisation vars rs) (c .solve .result) _ _ _ _ refl few (c .pre .1 .1 .0) (c .pre .1 .1 .1) (c .solve .ensures .room) (c .solve .ensures .answer) in
     below-more _ _ (c .loop-i .inv)
-      (ap not (sym (sure-at vars rs (c .solve .last .facts) _ _ _ (c .empty .result) (c .loop-i .i) true (s .facts) (c .reads .ensures) (c .incoming-written .ensures (s .tells)) (c .minus .ensures) (c .empty .ensures) (c .if-not-equals .ensures tt))))
+    (ap not (sym (sure-at vars rs (c .solve .last .facts) _ _ _ (c .empty .result) (c .loop-i .i) true (s .facts) (c .reads .ensures) (c .incoming-written .ensures (s .tells)) (c .minus .ensures) (c .empty .ensures) (c .if-not-equals .ensures tt))))
 
 pub returns : need.returns
 returns c =

@@ -1,0 +1,1 @@
+// The theorem on packing is to come.
