@@ -4,6 +4,8 @@ use Prim.Native.Nat.{ℕ}
 use lib.Chars.{codes}
 use lib.ListN.{length}
 use Rattle.std.specs.Written.{decimal}
+use Rattle.std.specs.declared.option.Option.{Option}
+use Rattle.std.specs.declared.option.Option.the-variants.{Some, None}
 use Rattle.std.specs.declared.result.Result.{Result}
 use Rattle.std.specs.declared.result.Result.the-variants.{Ok, Err}
 use Rattle.faults.specs.declared.Layer.{Layer}
@@ -12,6 +14,8 @@ use Rattle.faults.specs.declared.Refusal.{Refusal}
 use Rattle.faults.specs.declared.ProgramFault.{ProgramFault}
 use Rattle.faults.specs.Refusals.{programRefusal}
 use Rattle.rows.specs.Rows.{Program}
+use Rattle.admission.specs.Admission.{admitting}
+use Rattle.hex.specs.Hex.{firstWord, fileOf}
 use Rattle.answers.specs.declared.Verdict.{Verdict}
 use Rattle.answers.specs.declared.Verdict.the-variants.{Admitted, Refused}
 
@@ -34,3 +38,12 @@ verdictOf (Err e) = Refused (programRefusal e)
 -- the line that answers the word of a file
 abbrev pub answerLine : List ℕ → Verdict → List ℕ
 answerLine word v = word ++ (codes " " ++ (verdictText v ++ 10 ∷ []))
+
+-- the line that answers the file of a word
+abbrev pub answerBy : List ℕ → Option (List ℕ) → List ℕ
+answerBy word None = codes "bad case" ++ 10 ∷ []
+answerBy word (Some file) = answerLine word (verdictOf (admitting file))
+
+-- the line that answers a line
+abbrev pub answerTo : List ℕ → List ℕ
+answerTo line = answerBy (firstWord line) (fileOf (firstWord line))

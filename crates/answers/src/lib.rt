@@ -3,8 +3,11 @@ ghost use mathlib.Core.List.{_++_};
 ghost use Rattle.std.specs.Of.Vec.{vec-items};
 ghost use Rattle.std.specs.Vec.{made};
 ghost use Rattle.std.specs.declared.option.Option.the-variants.{Some};
-ghost use Rattle.answers.specs.Answers.{layerName, verdictText, answerLine};
+ghost use Rattle.admission.specs.Admission.{admitting};
+ghost use Rattle.stages.specs.Stages.{holding, programIn};
+ghost use Rattle.answers.specs.Answers.{layerName, verdictText, verdictOf, answerLine, answerTo};
 use faults::Layer;
+use faults::ProgramFault;
 use faults::Refusal;
 use hex::first_word;
 use hex::read_file;
@@ -78,10 +81,26 @@ impl Memory {
             hard: [NodeSet::EMPTY; 448],
         }
     }
+
+    // Admits a file in this memory: the record of the program then holds that of the file.
+    pub fn admit(&mut self, program: &mut Admitted, file: &[u8]) -> Result<(), ProgramFault>
+        ensures admitted { λ r. ⌜ holding r (programIn (now (now (program .exit) .record))) ≡ admitting (now (file .entry)) ⌝ }
+    {
+        admit(
+            program,
+            file,
+            &mut self.sets,
+            &mut self.edges,
+            &mut self.hard,
+        )
+    }
 }
 
-pub fn judge(program: &mut Admitted, memory: &mut Memory, file: &[u8]) -> Verdict {
-    match admit(program, file, &mut memory.sets, &mut memory.edges, &mut memory.hard) {
+// The verdict on a file; the program is that of the file if it is admitted.
+pub fn judge(program: &mut Admitted, memory: &mut Memory, file: &[u8]) -> Verdict
+    ensures { λ r. ⌜ r ≡ verdictOf (admitting (now (file .entry))) ⌝ }
+{
+    match memory.admit(program, file) {
         Ok(()) => Verdict::Admitted(program.vars(), program.count()),
         Err(fault) => Verdict::Refused(fault.refusal()),
     }
@@ -95,7 +114,9 @@ pub fn answer(
     memory: &mut Memory,
     file: &mut Vec<u8>,
     out: &mut Vec<u8>,
-) -> Result<(), AllocError> {
+) -> Result<(), AllocError>
+    ensures { λ r. ⌜ made r (λ _. vec-items (now (out .exit)) ≡ vec-items (now (out .entry)) ++ answerTo (now (line .entry))) ⌝ }
+{
     let word = first_word(line);
     if !read_file(word, file)? {
         return out.extend_from_slice(b"bad case\n");
