@@ -28,7 +28,14 @@ fn main(rt: LibcRuntime) -> io::Result<()> {
             let _ = line.pop();
         }
         text.clear();
-        answer(heap, line.as_slice(), &mut program, &mut memory, &mut file, &mut text)?;
+        answer(
+            heap,
+            line.as_slice(),
+            &mut program,
+            &mut memory,
+            &mut file,
+            &mut text,
+        )?;
         output.write_all(text.as_slice())?;
     }
     output.flush()

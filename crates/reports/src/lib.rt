@@ -107,7 +107,8 @@ fn cause(fault: ProgramFault) -> &'static str {
     match fault {
         ProgramFault::Rows(fault) => row_cause(fault),
         ProgramFault::Unreached(_) => "the row cannot be reached from row 0",
-        ProgramFault::Unwritten(_) => "the row reads a variable that may not have been written before",
+        ProgramFault::Unwritten(_) =>
+            "the row reads a variable that may not have been written before",
         ProgramFault::Memory(_) => "the working memory is too short",
     }
 }
@@ -126,7 +127,10 @@ pub impl fmt::Display for Explained<'_> as ExplainedDisplay {
         let layer = layer_name(refusal.layer);
         let place = place_of(self.fault);
         let cause = cause(self.fault);
-        write!(f, "refused with fault {number} of the layer {layer}, at {place}")?;
+        write!(
+            f,
+            "refused with fault {number} of the layer {layer}, at {place}"
+        )?;
         if let Place::Row(i) = place {
             write!(f, ", bytes")?;
             for byte in row_bytes(self.file, i) {
@@ -219,18 +223,23 @@ fn write_operands<W: fmt::Write>(row: SourceRow, f: &mut fmt::Formatter<W>) -> f
 fn write_row<W: fmt::Write>(i: usize, row: SourceRow, f: &mut fmt::Formatter<W>) -> fmt::Result {
     let weight = row.weight;
     let name = op_name(row.op);
-    write!(f, "{i:>5} {weight:>7}  {name}")?;
+    let shape = row.op.shape();
+    if shape.d || shape.a || shape.target {
+        write!(f, "{i:>5} {weight:>7}  {name:<6}")?;
+    } else {
+        write!(f, "{i:>5} {weight:>7}  {name}")?;
+    }
     write_operands(row, f)?;
     writeln!(f)
 }
 
 // The rows of a program as a table to read.
 #[derive(Drop)]
-pub struct Rows<'a> {
-    pub program: &'a Admitted<'a>,
+pub struct Rows<'a, 'b> {
+    pub program: &'a Admitted<'b>,
 }
 
-pub impl fmt::Display for Rows<'_> as RowsDisplay {
+pub impl fmt::Display for Rows<'_, '_> as RowsDisplay {
     fn fmt<W: fmt::Write>(&self, f: &mut fmt::Formatter<W>) -> fmt::Result {
         writeln!(f, "  row  weight  opcode and operands")?;
         for i in 0..self.program.count() {

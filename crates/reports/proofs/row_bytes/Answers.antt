@@ -12,16 +12,16 @@ use Rattle.reports.proofs.row_bytes.Needs as need
 drop-min : (xs : List ℕ) (n : ℕ) → drop (min n (length xs)) xs ≡ drop n xs
 drop-min xs n =
     elim (cases-lt n (length xs)) [
-      inl l ↦ let e : min n (length xs) ≡ n = omega arith in ap (λ (k : ℕ). drop k xs) e
-    | inr l ↦
-        drop-all (min n (length xs)) xs (omega arith) ∙ sym (drop-all n xs l)
+      | inl l ↦ let e : min n (length xs) ≡ n = omega arith in ap (λ (k : ℕ). drop k xs) e
+      | inr l ↦
+          drop-all (min n (length xs)) xs (omega arith) ∙ sym (drop-all n xs l)
     ]
 
 take-min : (xs : List ℕ) (n : ℕ) → take (min (length xs) n) xs ≡ take n xs
 take-min xs n =
     elim (cases-lt n (length xs)) [
-      inl l ↦ let e : min (length xs) n ≡ n = omega arith in ap (λ (k : ℕ). take k xs) e
-    | inr l ↦ take-all (min (length xs) n) xs (omega arith) ∙ sym (take-all n xs l)
+      | inl l ↦ let e : min (length xs) n ≡ n = omega arith in ap (λ (k : ℕ). take k xs) e
+      | inr l ↦ take-all (min (length xs) n) xs (omega arith) ∙ sym (take-all n xs l)
     ]
 
 none : (xs : List ℕ) (n : ℕ) → length xs ≡ 0 → xs ≡ take 4 (drop n xs)
