@@ -1,0 +1,4 @@
+pub mod Machine
+pub mod Players
+pub mod Rehearsal
+pub mod Agreement
