@@ -71,10 +71,10 @@ block s class ta r =
     let tb = after s (sh .a) (r .a) ta in
     let td = after s (sh .b) (r .b) tb in
     let rows : List Row =
-      cond (goes s (sh .a) (r .a)) (loadRow (r .weight) (class (r .a)) ta (slotIn s (r .a)) ∷ []) []
-      ++ (cond (goes s (sh .b) (r .b)) (loadRow (r .weight) (class (r .b)) tb (slotIn s (r .b)) ∷ []) []
-      ++ (core s ta tb td r
-      ∷ cond (goes s (sh .d) (r .d)) (storeRow (r .weight) (class (r .d)) td (slotIn s (r .d)) ∷ []) [])) in
+    cond (goes s (sh .a) (r .a)) (loadRow (r .weight) (class (r .a)) ta (slotIn s (r .a)) ∷ []) []
+    ++ (cond (goes s (sh .b) (r .b)) (loadRow (r .weight) (class (r .b)) tb (slotIn s (r .b)) ∷ []) []
+    ++ (core s ta tb td r
+    ∷ cond (goes s (sh .d) (r .d)) (storeRow (r .weight) (class (r .d)) td (slotIn s (r .d)) ∷ []) [])) in
     cond (inner s r) [] rows
 
 -- the blocks of rows, t being the next temporary

@@ -8,7 +8,6 @@ use lib.Dec.{eqb}
 use Rattle.rows.specs.declared.Row.{Row}
 use Rattle.rows.specs.Rows.{shape}
 use Rattle.registers.specs.Model.{Model, Written}
-use Rattle.registers.specs.Runs.{held, patched}
 use Rattle.machine.specs.Machine.{Shared, put, Effect, effect}
 
 -- a player: the row it stands at, the number of each variable or register, the rest
@@ -77,34 +76,3 @@ Runs m w c zero k e = (k ≡ 0) × (e ≡ c)
 Runs m w c (suc n) k e =
     ((running c ≡ false) × (k ≡ 0) × (e ≡ c))
     ⊎ ((running c ≡ true) × ((x : Player) × (j : ℕ) × Steps m w c x × Runs m w x n j e × (k ≡ suc j)))
-
--- a code player on a chip whose registers are runs in one row of bits
-pub record OnBits : Type 0 where
-  pub contents : ℕ
-  pub player : Player
-
--- a code player that starts on a chip with such contents
-abbrev pub onBits : Model → (low : ℕ → ℕ) → ℕ → (ℕ → ℕ) → List ℕ → OnBits
-onBits m low contents slots input = record { contents = contents; player = fresh (held m low contents) slots input }
-
--- one row of a code player on such a chip
-unfoldable pub steppedOn : Model → (low : ℕ → ℕ) → (ℕ → Row) → OnBits → OnBits
-unfolding effect
-steppedOn m low w s =
-    let p = s .player in
-    let e = at w p in
-    let d = w (p .row) .d in
-    let x = cond (writesNow w p) (patched (s .contents) (low d) (m .width d) (e .value)) (s .contents) in
-    record { contents = x; player = record { row = nextRow w p; numbers = held m low x; shared = e .shared } }
-
--- at most n rows of a code player on such a chip
-unfoldable pub runOn : Model → (low : ℕ → ℕ) → (ℕ → Row) → OnBits → ℕ → OnBits
-unfolding steppedOn
-runOn m low w s zero = s
-runOn m low w s (suc n) =
-    let more = runOn m low w (steppedOn m low w s) n in
-    cond (running (s .player)) more s
-
--- a player on bits steps as the code player of the chip's model may
-abbrev pub Steps-on : Model → (low : ℕ → ℕ) → Type 0
-Steps-on m low = (w : ℕ → Row) (s : OnBits) → s .player .numbers ≡ held m low (s .contents) → Steps m w (s .player) (steppedOn m low w s .player)
