@@ -25,8 +25,10 @@ use sets::clear;
 use source::program::Source;
 use source::read;
 
-// How many node sets each part of working memory has at the least.
-pub const PARTS: [usize; 3] = [512, 448, 448];
+// How many node sets the parts of working memory have at the least: the first, for facts, and the other two, for edges.
+pub const FACT_SETS: usize = 512;
+
+pub const EDGE_SETS: usize = 448;
 
 // The lowest row that is not reached, or the number of rows.
 fn first_unreached(graph: Graph, facts: &mut [NodeSet], comers: &mut [NodeSet]) -> usize
@@ -93,13 +95,13 @@ fn fact_fault(
 fn short_part(first: &[NodeSet], second: &[NodeSet], third: &[NodeSet]) -> Option<ProgramFault>
     ensures { λ r. ⌜ r ≡ shortPart (parts (now (first .entry)) (now (second .entry)) (now (third .entry))) ⌝ }
 {
-    if first.len() < 512 {
+    if first.len() < FACT_SETS {
         return Some(ProgramFault::Memory(0));
     }
-    if second.len() < 448 {
+    if second.len() < EDGE_SETS {
         return Some(ProgramFault::Memory(1));
     }
-    if third.len() < 448 {
+    if third.len() < EDGE_SETS {
         return Some(ProgramFault::Memory(2));
     }
     None
@@ -120,9 +122,9 @@ pub fn admitted(
     }
     let source = read(file)?;
     let fault = fact_fault(&source, first, second);
-    clear(first, 512);
-    clear(second, 448);
-    clear(third, 448);
+    clear(first, FACT_SETS);
+    clear(second, EDGE_SETS);
+    clear(third, EDGE_SETS);
     match fault {
         Some(fault) => Err(fault),
         None => Ok(source),

@@ -1,7 +1,7 @@
 -- Every fault by its number, its place and its layer.
 use Prim.Native.Nat.{ℕ}
 use Rattle.faults.specs.declared.Layer.{Layer}
-use Rattle.faults.specs.declared.Layer.the-variants.{Bits as BitLayer, Rows as RowLayer, Program as ProgramLayer}
+use Rattle.faults.specs.declared.Layer.the-variants.{Bits as BitLayer, Rows as RowLayer, Program as ProgramLayer, Player as PlayerLayer}
 use Rattle.faults.specs.declared.Refusal.{Refusal}
 use Rattle.faults.specs.declared.BitFault.{BitFault}
 use Rattle.faults.specs.declared.BitFault.the-variants.{Short, Long, Variables, RowCount, Class, Fill}
@@ -9,6 +9,8 @@ use Rattle.faults.specs.declared.RowFault.{RowFault}
 use Rattle.faults.specs.declared.RowFault.the-variants.{Bits, Opcode, Unused, Variable, Classes, Target, Last}
 use Rattle.faults.specs.declared.ProgramFault.{ProgramFault}
 use Rattle.faults.specs.declared.ProgramFault.the-variants.{Rows, Unreached, Unwritten, Memory}
+use Rattle.faults.specs.declared.PlayerFault.{PlayerFault}
+use Rattle.faults.specs.declared.PlayerFault.the-variants.{Input, Asked}
 
 -- a refusal of a layer, with its number and place
 abbrev pub told : Layer → ℕ → ℕ → Refusal
@@ -39,3 +41,8 @@ programRefusal (Rows f) = rowRefusal f
 programRefusal (Unreached i) = told ProgramLayer 13 i
 programRefusal (Unwritten i) = told ProgramLayer 14 i
 programRefusal (Memory part) = told ProgramLayer 15 part
+
+-- a call on a rehearsal: its input is too long, or it asks for too many rows
+abbrev pub playerRefusal : PlayerFault → Refusal
+playerRefusal Input = told PlayerLayer 16 0
+playerRefusal Asked = told PlayerLayer 17 0

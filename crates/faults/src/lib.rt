@@ -1,7 +1,7 @@
 ghost use mathlib.Core.Path.{_≡_};
 ghost use Rattle.faults.specs.declared.ProgramFault.the-variants.{Rows};
 ghost use Rattle.faults.specs.declared.RowFault.the-variants.{Bits};
-ghost use Rattle.faults.specs.Refusals.{bitRefusal, rowRefusal, programRefusal};
+ghost use Rattle.faults.specs.Refusals.{bitRefusal, rowRefusal, programRefusal, playerRefusal};
 
 // Where in the work a refusal arose.
 #[derive(Clone, Copy)]
@@ -9,6 +9,7 @@ pub enum Layer {
     Bits,
     Rows,
     Program,
+    Player,
 }
 
 // A refusal as it is told: what was wrong, by number, where, and in which layer.
@@ -49,6 +50,13 @@ pub enum ProgramFault {
     Unreached(u16),
     Unwritten(u16),
     Memory(u16),
+}
+
+// What may be wrong with a call on a rehearsal. It stands alone.
+#[derive(Clone, Copy)]
+pub enum PlayerFault {
+    Input,
+    Asked,
 }
 
 pub impl From<BitFault> for RowFault as RowFaultFromBits {
@@ -122,6 +130,22 @@ impl ProgramFault {
             number,
             place,
             layer: Layer::Program,
+        }
+    }
+}
+
+impl PlayerFault {
+    pub fn refusal(self) -> Refusal
+        ensures { λ r. ⌜ r ≡ playerRefusal self ⌝ }
+    {
+        let number = match self {
+            PlayerFault::Input => 16,
+            PlayerFault::Asked => 17,
+        };
+        Refusal {
+            number,
+            place: 0,
+            layer: Layer::Player,
         }
     }
 }

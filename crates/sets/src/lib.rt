@@ -22,14 +22,14 @@ impl NodeSet {
     pub fn empty() -> NodeSet
         ensures { λ r. ⌜ r ≡ emptySet ⌝ }
     {
-        NodeSet { words: [0; 7] }
+        NodeSet::EMPTY
     }
 
     // The numbers below n.
     pub fn up_to(n: usize) -> NodeSet
         ensures { λ r. ⌜ members r ≡ upTo (min n 448) ⌝ }
     {
-        let mut s = NodeSet { words: [0; 7] };
+        let mut s = NodeSet::EMPTY;
         for i in 0..7 {
             s.words[i] = low_bits(n.saturating_sub(64 * i));
         }
@@ -142,6 +142,6 @@ pub fn clear(sets: &mut [NodeSet], n: usize)
     ensures { λ _. ⌜ now (sets .exit) ≡ cleared (min n (length (now (sets .entry)))) (now (sets .entry)) ⌝ }
 {
     for i in 0..n.min(sets.len()) {
-        sets[i] = NodeSet { words: [0; 7] };
+        sets[i] = NodeSet::EMPTY;
     }
 }

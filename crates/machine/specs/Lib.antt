@@ -1,0 +1,5 @@
+pub mod Machine
+pub mod Players
+pub mod Rehearsal
+pub mod OnBits
+pub mod Agreement
