@@ -5,7 +5,7 @@ ghost use Rattle.std.specs.Vec.{made};
 ghost use Rattle.std.specs.declared.option.Option.the-variants.{Some};
 ghost use Rattle.admission.specs.Admission.{admitting};
 ghost use Rattle.stages.specs.Stages.{holding, programIn};
-ghost use Rattle.answers.specs.Answers.{layerName, verdictText, verdictOf, answerLine, answerTo};
+ghost use Rattle.answers.specs.Answers.{layerName, verdictText, verdictOf, answerLine, answerTo, emptyMemory};
 use faults::Layer;
 use faults::ProgramFault;
 use faults::Refusal;
@@ -25,6 +25,7 @@ pub fn layer_name(layer: Layer) -> &'static str
         Layer::Bits => "bits",
         Layer::Rows => "rows",
         Layer::Program => "program",
+        Layer::Player => "player",
     }
 }
 
@@ -74,7 +75,9 @@ pub struct Memory {
 }
 
 impl Memory {
-    pub fn new() -> Memory {
+    pub fn new() -> Memory
+        ensures { λ r. ⌜ r ≡ emptyMemory ⌝ }
+    {
         Memory {
             sets: [NodeSet::EMPTY; 512],
             edges: [NodeSet::EMPTY; 448],

@@ -1,7 +1,8 @@
 -- Lines of words, and files spelled in hexadecimal digits.
+use mathlib.Core.Path.{_≡_}
 use mathlib.Core.Bool.{Bool, true, false, cond, _&&_}
 use mathlib.Core.List.{List, [], _∷_}
-use Prim.Native.Nat.{ℕ, _+_, _-_, _*_}
+use Prim.Native.Nat.{ℕ, _+_, _-_, _*_, _<_}
 use lib.Dec.{eqb, leb, ltb}
 use Rattle.std.specs.declared.option.Option.{Option}
 use Rattle.std.specs.declared.option.Option.the-variants.{Some, None}
@@ -31,6 +32,11 @@ digit b =
     (cond (leb 97 b && leb b 102) (Some (b - 87))
     (cond (leb 65 b && leb b 70) (Some (b - 55))
     None))
+
+-- the value of a digit as a number, 16 for a byte that is none
+abbrev pub Valued : Option ℕ → ℕ → Type 0
+Valued None v = v ≡ 16
+Valued (Some d) v = (v ≡ d) × (d < 16)
 
 -- two digits as a byte
 abbrev pub pairOf : Option ℕ → Option ℕ → Option ℕ

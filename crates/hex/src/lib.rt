@@ -2,10 +2,9 @@ ghost use mathlib.Core.Path.{_≡_};
 ghost use mathlib.Core.Bool.{cond};
 ghost use Prim.Native.Nat.{_+_, _*_, _<_};
 ghost use Rattle.std.specs.Of.Vec.{vec-items};
-ghost use Rattle.std.specs.Slices.{found};
 ghost use Rattle.std.specs.Vec.{made};
 ghost use Rattle.std.specs.declared.option.Option.the-variants.{Some, None};
-ghost use Rattle.hex.specs.Hex.{unspaced, upToSpace, firstWord, digit as digitOf, pairOf, spelled, fileOf};
+ghost use Rattle.hex.specs.Hex.{unspaced, upToSpace, firstWord, digit, Valued, pairOf, spelled, fileOf};
 use std::alloc::AllocError;
 
 // The first word of a line: its first run of bytes other than the space.
@@ -37,24 +36,26 @@ fn up_to_space(line: &[u8]) -> &[u8]
     line
 }
 
-fn digit(b: u8) -> Option<u8>
-    ensures value { λ r. ⌜ r ≡ digitOf b ⌝ }
-    ensures small { λ r. ⌜ found r (λ d. d < 16) ⌝ }
+// The value of a digit, 16 for any other byte. No branch hangs on it, for digits come in no order.
+fn value(b: u8) -> u8
+    ensures { λ r. ⌜ Valued (digit b) r ⌝ }
 {
     match b {
-        b'0'..=b'9' => Some(b - b'0'),
-        b'a'..=b'f' => Some(b - b'a' + 10),
-        b'A'..=b'F' => Some(b - b'A' + 10),
-        _ => None,
+        b'0'..=b'9' => b - b'0',
+        b'a'..=b'f' => b - b'a' + 10,
+        b'A'..=b'F' => b - b'A' + 10,
+        _ => 16,
     }
 }
 
 fn byte(high: u8, low: u8) -> Option<u8>
-    ensures { λ r. ⌜ r ≡ pairOf (digitOf high) (digitOf low) ⌝ }
+    ensures { λ r. ⌜ r ≡ pairOf (digit high) (digit low) ⌝ }
 {
-    let (Some(high), Some(low)) = (digit(high), digit(low)) else {
+    let high = value(high);
+    let low = value(low);
+    if high > 15 || low > 15 {
         return None;
-    };
+    }
     Some(16 * high + low)
 }
 
