@@ -1,22 +1,21 @@
 -- What the two kinds of facts stand for: which rows a path leads to, and what is written on every path to a row.
 use mathlib.Core.Path.{_≡_, refl, sym, ap, ap₂, _∙_}
-use mathlib.Core.Bool.{Bool, true, false, cond, not, _&&_, _||_}
+use mathlib.Core.Bool.{Bool, true, false, not, _&&_, _||_}
 use mathlib.Core.List.{List, [], _∷_}
 use mathlib.Core.Logic.{_⊎_, inl, inr}
-use Prim.Native.Nat.{ℕ, zero, suc, _<_, _≤_, _^_}
+use Prim.Native.Nat.{ℕ, zero, suc, _<_, _≤_}
 use native.Mathlib.Omega.{arith}
 use lib.Dec.{eqb, ltb}
-use lib.ListN.{length, getD}
-use Rattle.std.proofs.shelf.Tests.{cases-bool, cases-eq, both-ways, and-parts, and-from, and-right, not-from-true, not-from-false, not-true, not-false, lt-ltb, ltb-true, eqb-true, eq-eqb, ne-eqb, or-left, or-right}
-use Rattle.std.proofs.shelf.Ways.{tells}
-use Rattle.sets.specs.Sets.{has, union, meet, minus, single, upTo, when}
+use lib.ListN.{length}
+use Rattle.std.proofs.shelf.Tests.{cases-bool, cases-eq, both-ways, and-from, and-right, not-from-true, not-from-false, not-true, not-false, lt-ltb, ltb-true, eqb-true, eq-eqb, ne-eqb, or-left, or-right}
+use Rattle.sets.specs.Sets.{has, meet, minus, single, upTo, when}
 use Rattle.sets.proofs.Members.{has-union, has-meet, has-minus, has-none, has-single, has-when, has-upTo}
 use Rattle.rows.specs.declared.Row.{Row}
 use Rattle.rows.specs.Rows.{reads, writes, setOf, rowAt}
-use Rattle.facts.specs.Flow.{Flow, Least, rows, holds, feeders, at, incoming, solved}
+use Rattle.facts.specs.Flow.{holds, feeders, at, incoming, solved}
 use Rattle.facts.proofs.Sweeping.{solved-least, solved-facts}
 use Rattle.facts.proofs.Walking.{same-sets}
-use Rattle.admission.specs.Kinds.{nexts, reach, initialisation, reached, writtenBefore, sure}
+use Rattle.admission.specs.Kinds.{reach, initialisation, reached, writtenBefore, sure}
 use Rattle.admission.specs.Laws.{reach-lawful, initialisation-lawful}
 use Rattle.admission.proofs.Ways.{nexts-length, nexts-at}
 use Rattle.paths.specs.Paths.{Leads, writtenOn}

@@ -1,18 +1,17 @@
 -- A mark that facts carry forward: a row has it just if some path from row 0 brings it along.
 use mathlib.Core.Path.{_≡_, refl, sym, ap, _∙_}
-use mathlib.Core.Bool.{Bool, true, false, cond, _&&_, _||_}
+use mathlib.Core.Bool.{Bool, true, false, _&&_, _||_}
 use mathlib.Core.List.{List, [], _∷_, map}
 use mathlib.Core.Logic.{_⊎_, inl, inr}
 use Prim.Native.Nat.{ℕ, zero, suc, _+_, _<_}
 use native.Mathlib.Omega.{arith}
-use lib.Dec.{eqb}
 use lib.ListN.{length, getD}
 use Rattle.std.proofs.shelf.Lists.{getD-past}
 use Rattle.std.proofs.shelf.Tests.{cases-lt, cases-eq, both-ways, or-cases, or-left, or-right, and-parts, and-from, eq-eqb, ne-eqb}
 use Rattle.counting.specs.Counting.{range}
 use Rattle.rows.specs.declared.Row.{Row}
 use Rattle.rows.specs.Rows.{next, rowAt}
-use Rattle.facts.specs.Flow.{Flow, Lawful, Least, rows, holds, comers, feeders, at, enters, gather, incoming, yields, solved}
+use Rattle.facts.specs.Flow.{Flow, Lawful, rows, holds, comers, feeders, at, enters, gather, incoming, yields, solved}
 use Rattle.facts.proofs.Sweeping.{solved-holds, solved-least}
 use Rattle.facts.proofs.Walking.{holds-comers}
 use Rattle.paths.specs.Paths.{Leads}

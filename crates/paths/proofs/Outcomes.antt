@@ -1,28 +1,26 @@
 -- What admission answers to a file that is read, by the paths of its program.
 use mathlib.Core.Path.{_≡_, refl, sym, ap, subst, _∙_}
-use mathlib.Core.Bool.{Bool, true, false, not}
+use mathlib.Core.Bool.{true, false, not}
 use mathlib.Core.List.{List}
 use mathlib.Core.Logic.{_⊎_, inl, inr}
-use Prim.Native.Nat.{ℕ, _<_, _≤_}
+use Prim.Native.Nat.{ℕ, _<_}
 use native.Mathlib.Omega.{arith}
 use lib.ListN.{length}
 use Rattle.std.specs.declared.option.Option.{Option}
-use Rattle.std.specs.declared.option.Option.the-variants.{Some, None}
 use Rattle.std.specs.declared.result.Result.{Result}
 use Rattle.std.specs.declared.result.Result.the-variants.{Ok, Err}
-use Rattle.std.proofs.shelf.Tests.{cases-bool, cases-lt, cases-order, both-ways, not-true, not-false}
+use Rattle.std.proofs.shelf.Tests.{cases-lt, cases-order, both-ways, not-true, not-false}
 use Rattle.counting.specs.Counting.{least}
-use Rattle.counting.proofs.Searches.{least-le, least-below, least-found}
+use Rattle.counting.proofs.Searches.{least-below, least-found}
 use Rattle.faults.specs.declared.RowFault.{RowFault}
 use Rattle.faults.specs.declared.ProgramFault.{ProgramFault}
 use Rattle.faults.specs.declared.ProgramFault.the-variants.{Rows, Unreached, Unwritten}
-use Rattle.rows.specs.Rows.{reads, rowAt, Program}
-use Rattle.facts.specs.Flow.{holds}
+use Rattle.rows.specs.Rows.{Program}
 use Rattle.source.specs.Reading.{reading}
 use Rattle.admission.specs.Kinds.{reached, sure}
 use Rattle.admission.specs.Admission.{factFault, faultless, judged, admitting}
 use Rattle.admission.proofs.Judging.{fault-lost, fault-raw, fault-none}
-use Rattle.paths.specs.Paths.{Leads, writtenOn, Reachable, Ready, Unready, Sound, FirstUnreached, FirstUnwritten, Admits, RefusesUnreached, RefusesUnwritten, Admission-by-paths, Unreached-by-paths, Unwritten-by-paths}
+use Rattle.paths.specs.Paths.{writtenOn, Reachable, Ready, Unready, Sound, FirstUnreached, FirstUnwritten, Admission-by-paths, Unreached-by-paths, Unwritten-by-paths}
 use Rattle.paths.proofs.Facts.{reached-path, path-reached, unsure-path, sure-path, sure-at, unsure-reads}
 use Rattle.paths.proofs.Files.{Held, held}
 
@@ -82,18 +80,26 @@ outcome bs p h =
     let reach : (k : ℕ) → k < n → k < lost → Reachable (p .rows) k = λ k l b. reached-path (p .rows) k l (not-false _ (least-below (λ i. not (reached (p .rows) i)) n k b)) in
     let ready : (k : ℕ) → k < n → k < raw → Ready (p .rows) k = λ k l b. sure-ready p wanted k l (not-false _ (least-below (λ i. not (sure (p .vars) (p .rows) i)) n k b)) in
     elim (cases-lt lost n) [
-      | inl l ↦ inl (lost, record {
-        inside = l;
-        lost = λ (path, leads). both-ways (reached (p .rows) lost) (not-true _ (least-found (λ i. not (reached (p .rows) i)) n l)) (path-reached (p .rows) lost path l leads);
-        lower = λ k b. reach k (omega arith) b;
-      }, answer _ (fault-lost p (p .rows) lost refl refl l))
-      | inr g ↦ elim (cases-lt raw n) [
-        | inl l ↦ inr (inl (raw, record {
-          reachable = λ k b. reach k b (omega arith);
+      | inl l ↦ inl (
+        lost,
+        record {
           inside = l;
-          raw = unsure-unready p wanted raw l (not-true _ (least-found (λ i. not (sure (p .vars) (p .rows) i)) n l));
-          lower = λ k b. ready k (omega arith) b;
-        }, answer _ (fault-raw p (p .rows) lost raw refl refl g refl l)))
+          lost = λ (path, leads). both-ways (reached (p .rows) lost) (not-true _ (least-found (λ i. not (reached (p .rows) i)) n l)) (path-reached (p .rows) lost path l leads);
+          lower = λ k b. reach k (omega arith) b;
+        },
+        answer _ (fault-lost p (p .rows) lost refl refl l),
+      )
+      | inr g ↦ elim (cases-lt raw n) [
+        | inl l ↦ inr (inl (
+          raw,
+          record {
+            reachable = λ k b. reach k b (omega arith);
+            inside = l;
+            raw = unsure-unready p wanted raw l (not-true _ (least-found (λ i. not (sure (p .vars) (p .rows) i)) n l));
+            lower = λ k b. ready k (omega arith) b;
+          },
+          answer _ (fault-raw p (p .rows) lost raw refl refl g refl l),
+        ))
         | inr e ↦ inr (inr (record { reachable = λ k b. reach k b (omega arith); written = λ k b. ready k b (omega arith) }, answer _ (fault-none p (p .rows) lost raw refl refl g refl e)))
       ]
     ]
