@@ -41,10 +41,11 @@ has-setOf (x ∷ xs) v =
 
 -- ---- reach
 
--- the mark of reach: membership of 0
+-- every row hands reach on
 every : ℕ → Bool
 every j = true
 
+-- the mark of reach: 0 is a member
 reach-marking : (rs : List Row) → Marking rs (reach rs) (λ x. has x 0) every
 unfolding has every
 reach-marking rs = record {
@@ -74,6 +75,7 @@ one-bit zero h = refl
 one-bit (suc zero) h = refl
 one-bit (suc (suc x)) h = absurd (omega arith)
 
+-- reach of a row is the mark of what comes to it
 reached-is : (rs : List Row) (i : ℕ) → i < length rs → reached rs i ≡ has (incoming (reach rs) (feeders (reach rs)) (at (reach rs) (solved (reach rs))) i) 0
 unfolding reached
 reached-is rs i l =
@@ -92,7 +94,7 @@ path-reached rs i path l leads = reached-is rs i l ∙ brought rs (reach rs) (λ
 
 -- ---- initialisation
 
--- a row leaves v unwritten
+-- whether row j leaves v unwritten
 leaves : List Row → ℕ → ℕ → Bool
 leaves rs v j = not (holds (writes (rowAt rs j)) v)
 
@@ -125,6 +127,7 @@ module _ (vars : ℕ) (rs : List Row) (v : ℕ) (lt : v < vars) (few : vars ≤ 
           whole : (b : Bool) → ((b && true) && true) ≡ b
           whole b = grind arith
 
+  -- a path on which every row leaves v unwritten
   left-unwritten : (path : List ℕ) → passed (leaves rs v) path ≡ not (writtenOn rs path v)
   unfolding passed leaves writtenOn
   left-unwritten [] = refl
@@ -176,6 +179,7 @@ sure-from vars rs i h =
       | inr e ↦ rw (has-setOf (reads (rowAt rs i)) k, e) (sym (has-none k))
     ]))
 
+-- a sure row finds each variable that it reads surely written
 pub sure-at : (vars : ℕ) (rs : List Row) (i v : ℕ) → sure vars rs i ≡ true → v < 448 → holds (reads (rowAt rs i)) v ≡ true → has (writtenBefore vars rs i) v ≡ true
 unfolding sure
 sure-at vars rs i v h lt r =

@@ -42,6 +42,7 @@ decided-ok None None (Some e) l q p d = absurd (err-ok _ p d)
 decided-ok None None None (Some e) q p d = absurd (err-ok _ p d)
 decided-ok None None None None q p d = (refl, refl, ok-same q p d)
 
+-- a header without a fault has few variables
 header-few : (bs : List ℕ) → headerFault bs ≡ None → varsIn bs ≤ 64
 unfolding headerFault
 header-few bs h =
@@ -71,6 +72,7 @@ third false true c x y z rest h = absurd (both-ways true h refl)
 third false false true x y z rest h = refl
 third false false false x y z rest h = absurd (both-ways true h refl)
 
+-- a row without a fault names only variables that there are
 fine-known : (v n : ℕ) (class : ℕ → ℕ) (i w : ℕ) → isSome (rowFault v n class i w) ≡ false → known v (rowOf class w) ≡ true
 unfolding rowFault
 fine-known v n class i w h = third (ltb 12 (part w 0 4)) (not (spare w (rowOf class w))) (known v (rowOf class w)) _ _ _ _ h
@@ -83,6 +85,7 @@ used-below true false a b v x ha hb h = grind (arith, tells)
 used-below false true a b v x ha hb h = grind (arith, tells)
 used-below false false a b v x ha hb h = absurd (both-ways false refl h)
 
+-- so does it read only such
 known-reads : (v x : ℕ) (r : Row) → known v r ≡ true → holds (reads r) x ≡ true → x < v
 known-reads v x r h k =
     let (_, rest) = and-parts (not (shape (r .op) .d) || ltb (r .d) v) _ h in
@@ -94,6 +97,7 @@ pub record Held (p : Program) : Type 0 where
   pub few : p .vars ≤ 64
   pub named : (i v : ℕ) → i < length (p .rows) → holds (reads (rowAt (p .rows) i)) v ≡ true → v < p .vars
 
+-- a file without these faults holds such a program
 held-in : (bs : List ℕ) → headerFault bs ≡ None → rowsFault bs ≡ None → Held (programIn bs)
 unfolding programIn
 held-in bs h r = record {

@@ -21,6 +21,7 @@ unfoldable pub passed : (ℕ → Bool) → List ℕ → Bool
 passed passes [] = true
 passed passes (j ∷ js) = let r = passed passes js in passes j && r
 
+-- a table over the numbers from j on
 range-map : {A : Type 0} (g : ℕ → A) (n j i : ℕ) (d : A) → i < n → getD (map g (range n j)) i d ≡ g (j + i)
 unfolding range
 range-map g zero j i d h = absurd (omega arith)
@@ -39,6 +40,7 @@ module _ (t : ℕ → Bool) (join : ℕ → ℕ → ℕ) (joined : (x y : ℕ) �
   gather-keeps k x [] h = h
   gather-keeps k x (j ∷ js) h = gather-keeps k (join x (k j)) js (joined x (k j) ∙ or-left _ _ h)
 
+  -- a mark kept by a row of the list is gathered
   gather-at : (k : ℕ → ℕ) (x : ℕ) (js : List ℕ) (j : ℕ) → holds js j ≡ true → t (k j) ≡ true → t (gather join k x js) ≡ true
   unfolding gather holds
   gather-at k x [] j h m = absurd (both-ways false refl h)
@@ -77,6 +79,7 @@ module _ (rs : List Row) (f : Flow) (t passes : ℕ → Bool) (m : Marking rs f 
   comes : (i j : ℕ) → i < length rs → j < length rs → holds (getD (feeders f) i []) j ≡ holds (next j (rowAt rs j)) i
   comes i j l lj = fed i j l ∙ ap (λ (js : List ℕ). holds js i) (m .ways j lj)
 
+  -- the mark enters at row 0 only
   enters-first : (i : ℕ) → i ≡ 0 → t (enters f i) ≡ true
   enters-first i e = rw (m .forward, eq-eqb i 0 e) (m .some)
 

@@ -31,16 +31,18 @@ module _ (p : Program) (h : Held p) where
       let lt = h .named i v l r in
       sure-path (p .vars) (p .rows) v lt (h .few) i path l (sure-at (p .vars) (p .rows) i v s (omega (arith, lt, h .few)) r) leads
 
+  -- a row that is not sure reads what some path to it has not written
   unsure-unready : (i : ℕ) → i < length (p .rows) → sure (p .vars) (p .rows) i ≡ false → Unready (p .rows) i
   unsure-unready i l s =
       let (v, r, none) = unsure-reads (p .vars) (p .rows) i s in
       let (path, leads, clear) = unsure-path (p .vars) (p .rows) v (h .named i v l r) (h .few) i l none in
       (path, leads, v, r, clear)
 
--- no two of the three hold of a program, nor one of two rows
+-- a row is not both
 unready-not : (p : Program) (i : ℕ) → Unready (p .rows) i → Ready (p .rows) i → ⊥
 unready-not p i (path, leads, v, r, clear) ready = both-ways (writtenOn (p .rows) path v) clear (ready path leads v r)
 
+-- the lowest row is one row
 unreached-one : (p : Program) (i k : ℕ) → FirstUnreached p i → FirstUnreached p k → i ≡ k
 unreached-one p i k a b =
     elim (cases-order i k) [ inl e ↦ e | inr (inl l) ↦ absurd (a .lost (b .lower i l)) | inr (inr l) ↦ absurd (b .lost (a .lower k l)) ]
@@ -51,6 +53,7 @@ unwritten-one p i k a b =
 
 -- ---- from the fault to the answer
 
+-- a file that was read is answered by the fault of its rows
 admitting-read : (bs : List ℕ) (p : Program) → reading bs ≡ Ok p → admitting bs ≡ faultless (factFault p) p
 unfolding admitting
 admitting-read bs p h = rw h
@@ -64,7 +67,7 @@ admitting-or : (bs : List ℕ) → ((p : Program) × (reading bs ≡ Ok p)) ⊎ 
 unfolding admitting
 admitting-or bs = judged-read (reading bs)
 
--- the answer to a file that was read
+-- the three answers to a file that was read
 abbrev Outcome : List ℕ → Program → Type 0
 Outcome bs p =
     ((i : ℕ) × FirstUnreached p i × (admitting bs ≡ Err (Unreached i)))
@@ -73,12 +76,12 @@ Outcome bs p =
 outcome : (bs : List ℕ) (p : Program) → reading bs ≡ Ok p → Outcome bs p
 outcome bs p h =
     let n : ℕ = length (p .rows) in
-    let wanted : Held p = held bs p h in
+    let holds : Held p = held bs p h in
     let answer : (o : Option ProgramFault) → o ≡ factFault p → admitting bs ≡ faultless o p = λ o e. admitting-read bs p h ∙ ap (λ (f : Option ProgramFault). faultless f p) (sym e) in
     let lost : ℕ = least (λ i. not (reached (p .rows) i)) n in
     let raw : ℕ = least (λ i. not (sure (p .vars) (p .rows) i)) n in
     let reach : (k : ℕ) → k < n → k < lost → Reachable (p .rows) k = λ k l b. reached-path (p .rows) k l (not-false _ (least-below (λ i. not (reached (p .rows) i)) n k b)) in
-    let ready : (k : ℕ) → k < n → k < raw → Ready (p .rows) k = λ k l b. sure-ready p wanted k l (not-false _ (least-below (λ i. not (sure (p .vars) (p .rows) i)) n k b)) in
+    let ready : (k : ℕ) → k < n → k < raw → Ready (p .rows) k = λ k l b. sure-ready p holds k l (not-false _ (least-below (λ i. not (sure (p .vars) (p .rows) i)) n k b)) in
     elim (cases-lt lost n) [
       | inl l ↦ inl (
         lost,
@@ -95,7 +98,7 @@ outcome bs p h =
           record {
             reachable = λ k b. reach k b (omega arith);
             inside = l;
-            raw = unsure-unready p wanted raw l (not-true _ (least-found (λ i. not (sure (p .vars) (p .rows) i)) n l));
+            raw = unsure-unready p holds raw l (not-true _ (least-found (λ i. not (sure (p .vars) (p .rows) i)) n l));
             lower = λ k b. ready k (omega arith) b;
           },
           answer _ (fault-raw p (p .rows) lost raw refl refl g refl l),
