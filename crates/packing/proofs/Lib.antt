@@ -1,0 +1,5 @@
+pub mod Bytes
+pub mod Standing
+pub mod Places
+pub mod Faultless
+pub mod Forgets
