@@ -2,15 +2,14 @@
 use mathlib.Core.Path.{_≡_, refl, sym, ap, _∙_}
 use mathlib.Core.Logic.{inl, inr}
 use mathlib.Core.List.{List, [], _∷_, _++_}
-use Prim.Native.Nat.{ℕ, zero, suc, _+_, _-_, _*_, _/_, _%_, _^_, _<_, _≤_}
+use Prim.Native.Nat.{ℕ, zero, suc, _+_, _*_, _/_, _%_, _^_, _<_, _≤_}
 use native.Mathlib.Omega.{arith}
-use native.Mathlib.Nat.{mod-lt, mod-eq-of-lt, mod-one, zero-add}
-use native.Mathlib.Numerals.{add-one}
-use lib.ListN.{length, getD, take, length-append}
+use native.Mathlib.Nat.{mod-lt, mod-eq-of-lt, zero-add}
+use lib.ListN.{length, getD, take}
 use lib.Seq.{take-length, take-suc}
 use lib.Dec.{lit<}
-use lib.Pow.{high, low, mod-pow-add, field as field-of, mod-mod-pow, pow-add}
-use Rattle.std.proofs.shelf.Tests.{cases-lt, cases-eq}
+use lib.Pow.{high, low, pow-add}
+use Rattle.std.proofs.shelf.Tests.{cases-lt}
 use Rattle.std.proofs.shelf.Lists.{getD-append-left, getD-push, length-push}
 use Rattle.source.specs.Bits.{number}
 use Rattle.packing.specs.Packing.{bytes}

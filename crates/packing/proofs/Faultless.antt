@@ -1,28 +1,26 @@
 -- What a file without a fault holds.
 use mathlib.Core.Path.{_≡_, refl, sym, ap, _∙_}
 use mathlib.Core.Bool.{Bool, true, false, cond, not, _&&_, _||_}
-use mathlib.Core.Logic.{_⊎_, inl, inr}
-use mathlib.Core.List.{List, [], _∷_, _++_, map}
-use Prim.Native.Nat.{ℕ, zero, suc, _+_, _-_, _*_, _/_, _<_, _≤_}
+use mathlib.Core.Logic.{inl, inr}
+use mathlib.Core.List.{List}
+use Prim.Native.Nat.{ℕ, _+_, _-_, _*_, _<_, _≤_}
 use native.Mathlib.Omega.{arith}
 use native.Mathlib.Nat.{lt-of-lt-of-le, le-refl}
-use lib.Dec.{eqb, ltb, leb}
-use lib.ListN.{length, getD}
+use lib.Dec.{eqb, leb}
+use lib.ListN.{length}
 use Rattle.std.specs.Options.{isSome}
 use Rattle.std.specs.declared.option.Option.{Option}
 use Rattle.std.specs.declared.option.Option.the-variants.{Some, None}
-use Rattle.std.specs.declared.result.Result.{Result}
-use Rattle.std.specs.declared.result.Result.the-variants.{Ok, Err}
-use Rattle.std.proofs.shelf.Tests.{cases-bool, cases-lt, cases-eq, both-ways, ltb-true, ltb-false, lt-ltb, le-ltb, eqb-true, eq-eqb, ne-eqb, eqb-false, or-parts, or-from, not-false, not-from-true, cond-false, and-parts}
+use Rattle.std.specs.declared.result.Result.the-variants.{Ok}
+use Rattle.std.proofs.shelf.Tests.{cases-bool, cases-lt, cases-eq, both-ways, ltb-false, lt-ltb, le-ltb, eqb-true, ne-eqb, eqb-false, or-parts, not-false, not-from-true, cond-false, and-parts}
 use Rattle.counting.specs.Counting.{least}
-use Rattle.counting.proofs.Searches.{least-none, least-below, least-found, least-le}
+use Rattle.counting.proofs.Searches.{least-none, least-below, least-found}
 use Rattle.faults.specs.declared.BitFault.{BitFault}
 use Rattle.faults.specs.declared.BitFault.the-variants.{Short, Fill}
 use Rattle.faults.specs.declared.RowFault.{RowFault}
-use Rattle.faults.specs.declared.RowFault.the-variants.{Last}
 use Rattle.rows.specs.declared.Row.{Row}
-use Rattle.rows.specs.Rows.{shape, opcode, opOf, fits, Program}
-use Rattle.source.specs.Reading.{varsIn, countIn, classIn, classesIn, classBytes, sizeOf, fillIn, part, rowOf, spare, known, rowFault, countsFault, headerFault, classFault, rowsFault, lastFault, programIn, decided, reading, classOf, rowIn, faultIn}
+use Rattle.rows.specs.Rows.{shape, fits, Program}
+use Rattle.source.specs.Reading.{varsIn, countIn, classIn, sizeOf, fillIn, part, rowOf, spare, known, rowFault, countsFault, headerFault, classFault, rowsFault, lastFault, programIn, decided, reading, rowIn, faultIn}
 use Rattle.source.proofs.Fields.{field-lt}
 use Rattle.source.proofs.Parts.{headed-by, headed-short, classes-none}
 

@@ -1,29 +1,29 @@
 -- The program of a file packs to that file.
 use mathlib.Core.Path.{_≡_, refl, sym, ap, subst, _∙_}
-use mathlib.Core.Bool.{Bool, true, false, cond, not, _&&_, _||_}
-use mathlib.Core.Logic.{_⊎_, inl, inr}
+use mathlib.Core.Bool.{Bool, true}
+use mathlib.Core.Logic.{inl, inr}
 use mathlib.Core.List.{List, map}
-use Prim.Native.Nat.{ℕ, _+_, _-_, _*_, _/_, _<_, _≤_}
+use Prim.Native.Nat.{ℕ, _+_, _*_, _/_, _<_, _≤_}
 use native.Mathlib.Omega.{arith}
 use lib.Dec.{eqb}
-use lib.ListN.{length, getD}
+use lib.ListN.{length}
 use Rattle.std.specs.Iters.{counting}
 use Rattle.std.proofs.shelf.Counted.{getD-map-counting, length-map-counting}
-use Rattle.std.proofs.shelf.Tests.{cases-bool, and-parts, or-cases, eqb-true, eq-eqb, both-ways, not-from-true}
+use Rattle.std.proofs.shelf.Tests.{cases-bool, eqb-true}
 use Rattle.counting.specs.Counting.{all}
 use Rattle.counting.proofs.Searches.{all-at}
 use Rattle.rows.specs.declared.Op.{Op}
 use Rattle.rows.specs.declared.Row.{Row}
 use Rattle.rows.specs.Rows.{shape, opcode, opOf, endRow, Program, rowAt}
 use Rattle.source.specs.Bits.{field}
-use Rattle.source.specs.Reading.{varsIn, countIn, classIn, classesIn, classBytes, sizeOf, part, rowBy, rowOf, rowPlace, wordIn, rowIn, classOf, spare, programIn}
+use Rattle.source.specs.Reading.{varsIn, countIn, classIn, classesIn, sizeOf, part, rowBy, rowPlace, wordIn, rowIn, classOf, programIn}
 use Rattle.source.proofs.Fields.{part-field}
-use Rattle.packing.specs.Packing.{Field, cell, width, packed, bytes, rowFields, fileFields, pack}
+use Rattle.packing.specs.Packing.{width, rowFields, fileFields, pack}
 use Rattle.packing.specs.Inverse.{AreBytes, Forgets-nothing, One-file-one-program}
 use Rattle.packing.proofs.Bytes.{bytes-number}
 use Rattle.packing.proofs.Standing.{Stands, packed-all}
 use Rattle.packing.proofs.Places.{Laid, laid-stands, width-file}
-use Rattle.packing.proofs.Faultless.{Fine, FineRow, row-fine, read-fine, spared}
+use Rattle.packing.proofs.Faultless.{Fine, row-fine, read-fine, spared}
 
 -- ---- a row
 

@@ -1,14 +1,13 @@
 -- Where the fields of a program stand in its file.
-use mathlib.Core.Path.{_≡_, refl, sym, ap, _∙_}
-use mathlib.Core.Bool.{Bool, true, false, cond}
-use mathlib.Core.Logic.{_⊎_, inl, inr}
-use mathlib.Core.List.{List, [], _∷_, _++_, map}
-use Prim.Native.Nat.{ℕ, zero, suc, _+_, _-_, _*_, _/_, _<_, _≤_}
+use mathlib.Core.Path.{_≡_, refl, sym}
+use mathlib.Core.Logic.{inl, inr}
+use mathlib.Core.List.{List, [], _∷_, map}
+use Prim.Native.Nat.{ℕ, zero, suc, _+_, _-_, _*_, _<_}
 use native.Mathlib.Omega.{arith}
 use lib.ListN.{length, getD}
 use Rattle.std.proofs.shelf.Tests.{cases-bool}
 use Rattle.rows.specs.declared.Row.{Row}
-use Rattle.rows.specs.Rows.{shape, opcode, endRow, Program, rowAt}
+use Rattle.rows.specs.Rows.{shape, Program, rowAt}
 use Rattle.source.specs.Bits.{field}
 use Rattle.source.specs.Reading.{varsIn, countIn, classBytes, sizeOf}
 use Rattle.packing.specs.Packing.{Field, cell, width, rowFields, rowsFields, fileFields}

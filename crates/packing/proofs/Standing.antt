@@ -1,16 +1,15 @@
 -- Fields that stand in a file, one after another.
-use mathlib.Core.Path.{_≡_, refl, sym, ap, _∙_}
-use mathlib.Core.List.{List, [], _∷_, _++_, map}
-use Prim.Native.Nat.{ℕ, zero, suc, _+_, _-_, _*_, _/_, _%_, _^_, _<_, _≤_}
+use mathlib.Core.Path.{_≡_, sym, ap, _∙_}
+use mathlib.Core.List.{List, [], _∷_, _++_}
+use Prim.Native.Nat.{ℕ, _+_, _-_, _*_, _/_, _%_, _^_, _<_}
 use native.Mathlib.Omega.{arith}
-use native.Mathlib.Nat.{mod-lt, mod-eq-of-lt, mod-one, add-zero, add-assoc, add-comm}
-use lib.ListN.{length, getD}
+use native.Mathlib.Nat.{mod-eq-of-lt, mod-one}
+use lib.ListN.{length}
 use lib.Arith.{digits-lt}
 use lib.Pow.{high, low, mod-pow-add, field as field-of, mod-mod-pow, pow-add}
-use Rattle.std.proofs.shelf.Bits.{pow-pos}
 use Rattle.source.specs.Bits.{number, field}
 use Rattle.source.proofs.Fields.{number-lt}
-use Rattle.packing.specs.Packing.{Field, cell, width, packed}
+use Rattle.packing.specs.Packing.{Field, width, packed}
 
 -- each field has the value that the file has in its bits, from place p on
 abbrev pub Stands : List ℕ → ℕ → List Field → Type 0
