@@ -6,8 +6,9 @@ ghost use lib.ListN.{length, getD};
 ghost use Rattle.std.specs.declared.option.Option.the-variants.{Some, None};
 ghost use Rattle.std.specs.declared.result.Result.the-variants.{Err};
 ghost use Rattle.faults.specs.declared.ProgramFault.{ProgramFault as AnyFault};
-ghost use Rattle.rows.specs.Rows.{rowAt};
+ghost use Rattle.rows.specs.Rows.{rowAt, Program};
 ghost use Rattle.admission.specs.Memory.{parts, answer, answered};
+ghost use Rattle.paths.specs.Paths.{Admits};
 ghost use Rattle.stages.specs.Stages.{programIn, endProgram, holding};
 use admission::admitted;
 use faults::ProgramFault;
@@ -106,7 +107,8 @@ impl<'a> Admitted<'a> {
     }
 }
 
-// Admits a file: the record then holds its program. A refusal leaves the record as it was.
+// Admits a file: the record then holds its program. A refusal leaves the record as it was. Which files are admitted is
+// told by paths: those that can be read, whose rows all lie on paths from row 0 on which each read follows a write.
 // The memory is three parts of at least 512, 448 and 448 node sets; what it holds counts for nothing.
 pub fn admit(
     p: &mut Admitted,
@@ -118,6 +120,7 @@ pub fn admit(
     ensures answer { λ r. ⌜ answer (holding r (programIn (now (now (p .exit) .record)))) (parts (now (first .exit)) (now (second .exit)) (now (third .exit))) ≡ answered (now (file .entry)) (parts (now (first .entry)) (now (second .entry)) (now (third .entry))) ⌝ }
     ensures refused { λ r. ⌜ ((e : AnyFault) → r ≡ Err e → now (now (p .exit) .record) ≡ now (now (p .entry) .record)) ⌝ }
     ensures same { λ _. ⌜ name (now (p .exit) .record) ≡ name (now (p .entry) .record) ⌝ }
+    ensures paths { λ _. ⌜ ((q : Program) → Admits (now (file .entry)) q) ⌝ }
 {
     let source = admitted(file, first, second, third)?;
     *p.record = Record { source };

@@ -1,0 +1,4 @@
+pub mod Marks
+pub mod Facts
+pub mod Files
+pub mod Outcomes
