@@ -3,6 +3,8 @@ ghost use mathlib.Core.List.{_++_};
 ghost use Rattle.std.specs.Of.Vec.{vec-items};
 ghost use Rattle.std.specs.Vec.{made};
 ghost use Rattle.std.specs.declared.option.Option.the-variants.{Some};
+ghost use Rattle.std.specs.declared.result.Result.the-variants.{Err};
+ghost use Rattle.faults.specs.declared.ProgramFault.{ProgramFault as AnyFault};
 ghost use Rattle.admission.specs.Admission.{admitting};
 ghost use Rattle.stages.specs.Stages.{holding, programIn};
 ghost use Rattle.answers.specs.Answers.{layerName, verdictText, verdictOf, answerLine, answerTo, emptyMemory};
@@ -85,9 +87,10 @@ impl Memory {
         }
     }
 
-    // Admits a file in this memory: the record of the program then holds that of the file.
+    // Admits a file in this memory: the record then holds its program. A refusal leaves the record as it was.
     pub fn admit(&mut self, program: &mut Admitted, file: &[u8]) -> Result<(), ProgramFault>
         ensures admitted { λ r. ⌜ holding r (programIn (now (now (program .exit) .record))) ≡ admitting (now (file .entry)) ⌝ }
+        ensures refused { λ r. ⌜ ((e : AnyFault) → r ≡ Err e → now (now (program .exit) .record) ≡ now (now (program .entry) .record)) ⌝ }
     {
         admit(
             program,
