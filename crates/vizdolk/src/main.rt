@@ -27,7 +27,7 @@ fn tell_file(rt: &LibcRuntime, path: &str, file: &[u8], memory: &mut Memory) -> 
             let rows = Rows { program: &program };
             println!(
                 rt,
-                "{path}: {vars} variables, {count} rows\n{rows}admitted\n"
+                "{path}: variables {vars}, rows {count}\n{rows}admitted\n"
             )
         }
         Err(fault) => {
