@@ -1,11 +1,11 @@
 use mathlib.Core.Path.{refl}
 use Rattle.compiling.specs.Compile.{compile}
-use Rattle.worked.specs.Showing.{outputs}
+use Rattle.worked.specs.Showing.{outputs, answered, counts}
 use Rattle.worked.specs.Table.{Cases}
 
 -- by computation
 pub cases : Cases
-unfolding compile outputs
+unfolding compile outputs answered counts
 cases = record {
   ends = refl;
   merged-nested = refl;
@@ -20,4 +20,8 @@ cases = record {
   unread = refl;
   unwritten = refl;
   unreached = refl;
+  in-turns = refl;
+  in-turns-counted = refl;
+  restart-counted = refl;
+  limits = refl;
 }
