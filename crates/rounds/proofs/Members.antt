@@ -37,12 +37,12 @@ has-those t (suc n) k =
     ∙ ap (λ b. b || has (when (t n) (single n)) k) (has-those t n k)
     ∙ ap (λ b. (ltb k n && t k) || b) (has-when (t n) (single n) k ∙ ap (λ b. t n && b) (has-single n k))
     ∙ last
-    where
-      last : ((ltb k n && t k) || (t n && eqb k n)) ≡ (ltb k (suc n) && t k)
-      last = elim (cases-eq k n) [
-        | inl e ↦ rw (e, eq-eqb n n refl, le-ltb n n (omega arith), lt-ltb n (suc n) (omega arith)) (grind arith)
-        | inr ne ↦ elim (cases-lt k n) [
-          | inl l ↦ rw (ne-eqb k n ne, lt-ltb k n l, lt-ltb k (suc n) (omega arith)) (grind arith)
-          | inr g ↦ rw (ne-eqb k n ne, le-ltb k n g, le-ltb k (suc n) (omega arith)) (grind arith)
-        ]
+  where
+    last : ((ltb k n && t k) || (t n && eqb k n)) ≡ (ltb k (suc n) && t k)
+    last = elim (cases-eq k n) [
+      | inl e ↦ rw (e, eq-eqb n n refl, le-ltb n n (omega arith), lt-ltb n (suc n) (omega arith)) (grind arith)
+      | inr ne ↦ elim (cases-lt k n) [
+        | inl l ↦ rw (ne-eqb k n ne, lt-ltb k n l, lt-ltb k (suc n) (omega arith)) (grind arith)
+        | inr g ↦ rw (ne-eqb k n ne, le-ltb k n g, le-ltb k (suc n) (omega arith)) (grind arith)
       ]
+    ]

@@ -11,6 +11,7 @@ cases = record {
   merged-nested = refl;
   merged-paired = refl;
   merged-softly = refl;
+  merged-lightly = refl;
   five-words = refl;
   unmerged = refl;
   unmerged-source = refl;
@@ -24,4 +25,5 @@ cases = record {
   in-turns-counted = refl;
   restart-counted = refl;
   limits = refl;
+  full = refl;
 }

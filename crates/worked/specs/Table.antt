@@ -48,6 +48,16 @@ unwrittenFile = 1 ∷ 2 ∷ 128 ∷ 160 ∷ 0 ∷ 0 ∷ 0 ∷ 0 ∷ 0 ∷ 0 ∷ 
 abbrev pub unreachedFile : List ℕ
 unreachedFile = 0 ∷ 3 ∷ 176 ∷ 0 ∷ 0 ∷ 2 ∷ 0 ∷ 0 ∷ 0 ∷ 0 ∷ 0 ∷ 0 ∷ 0 ∷ 0 ∷ []
 
+-- const v0 9, then const and output of v2, v3, v4 and v5 in turn, copy v1 v0, output v1, end; words
+abbrev pub lightFile : List ℕ
+lightFile =
+    6 ∷ 12 ∷ 170 ∷ 160 ∷ 16 ∷ 0 ∷ 0 ∷ 144 ∷ 16 ∷ 32 ∷ 0 ∷ 32 ∷ 160 ∷ 0 ∷ 128 ∷ 0 ∷ 16 ∷ 48 ∷ 0 ∷ 48 ∷ 160 ∷ 0 ∷ 192 ∷ 0 ∷ 16 ∷ 64 ∷ 0 ∷ 64
+    ∷ 160 ∷ 1 ∷ 0 ∷ 0 ∷ 16 ∷ 80 ∷ 0 ∷ 80 ∷ 160 ∷ 1 ∷ 64 ∷ 0 ∷ 32 ∷ 16 ∷ 0 ∷ 0 ∷ 160 ∷ 0 ∷ 64 ∷ 0 ∷ 0 ∷ 0 ∷ 0 ∷ 0 ∷ []
+
+-- const v0 5, output v0, jump 1; a word
+abbrev pub endlessFile : List ℕ
+endlessFile = 1 ∷ 3 ∷ 128 ∷ 16 ∷ 0 ∷ 0 ∷ 80 ∷ 160 ∷ 0 ∷ 0 ∷ 0 ∷ 176 ∷ 0 ∷ 0 ∷ 1 ∷ []
+
 -- a rehearsal in turns
 abbrev pub turns : List Call
 turns = PlaySource 3 ∷ PlayCode 4 ∷ PlayCode 65536 ∷ PlayCode 20 ∷ PlayCode 1 ∷ PlaySource 765 ∷ []
@@ -61,6 +71,11 @@ pub record Cases : Type 0 where
       (code Const 0 2 0 6 0 0 7 ∷ code Output 0 0 2 0 6 0 0 ∷ code End 0 0 0 0 0 0 0 ∷ [])
   pub merged-softly : tells (compile nestedFile softFile) ≡ Coded 1 0 (inRegister 0 1 false ∷ inRegister 0 1 false ∷ [])
       (code Const 0 2 0 0 0 0 7 ∷ code Output 0 0 2 0 0 0 0 ∷ code Output 0 0 2 0 0 0 0 ∷ code End 0 0 0 0 0 0 0 ∷ [])
+  pub merged-lightly : tells (compile nestedFile lightFile)
+      ≡ Coded 1 0 (inRegister 1 1 false ∷ inRegister 1 1 false ∷ inRegister 0 1 false ∷ inRegister 0 1 false ∷ inRegister 0 1 false ∷ inRegister 0 1 false ∷ [])
+      (code Const 0 2 0 1 0 0 9 ∷ code Const 0 2 0 0 0 0 2 ∷ code Output 0 0 2 0 0 0 0 ∷ code Const 0 2 0 0 0 0 3 ∷ code Output 0 0 2 0 0 0 0
+      ∷ code Const 0 2 0 0 0 0 4 ∷ code Output 0 0 2 0 0 0 0 ∷ code Const 0 2 0 0 0 0 5 ∷ code Output 0 0 2 0 0 0 0
+      ∷ code Output 0 0 2 0 1 0 0 ∷ code End 0 0 0 0 0 0 0 ∷ [])
   pub five-words : tells (compile nestedFile fiveFile)
       ≡ Coded 3 2 (inSlot 0 1 true ∷ inSlot 1 2 true ∷ inRegister 3 3 false ∷ inRegister 2 3 false ∷ inRegister 1 3 false ∷ [])
       (code Const 0 2 0 0 0 0 1 ∷ code Store 0 0 2 0 0 0 0 ∷ code Const 0 2 0 0 0 0 2 ∷ code Store 0 0 2 0 0 0 1
@@ -83,3 +98,4 @@ pub record Cases : Type 0 where
   pub restart-counted : counts nested hardFile (turns ++ Restart [] ∷ []) ≡ record { sourceAsked = 0; sourcePlayed = 0; codeAsked = 0; codePlayed = 0 }
   pub limits : answered nested endFile (Restart (replicate 256 9) ∷ Restart (replicate 257 9) ∷ PlaySource 0 ∷ PlaySource 65535 ∷ PlaySource 65536 ∷ PlayCode 65535 ∷ [])
       ≡ served 0 0 ∷ longInput ∷ served 0 0 ∷ served 1 1 ∷ manyRows ∷ served 1 1 ∷ []
+  pub full : answered nested endlessFile (PlaySource 600 ∷ PlayCode 600 ∷ PlaySource 1 ∷ []) ≡ served 514 3 ∷ served 514 3 ∷ served 0 3 ∷ []
