@@ -7,7 +7,7 @@ use Rattle.counting.specs.Counting.{range}
 use Rattle.sets.specs.Sets.{union, minus}
 use Rattle.rows.specs.declared.Row.{Row}
 use Rattle.rows.specs.Rows.{reads, writes, setOf, rowAt}
-use Rattle.facts.specs.Flow.{Flow, feeders, at, incoming, solved}
+use Rattle.facts.specs.Flow.{Flow, feeders, at, incoming, solved, Least}
 use Rattle.facts.specs.Shapes.{spreading}
 use Rattle.admission.specs.Kinds.{nextsFrom, nexts}
 
@@ -27,3 +27,7 @@ liveAfter rows =
     let f = liveness rows in
     let kept = liveBefore rows in
     map (incoming f (feeders f) (at f kept)) (range (length rows) 0)
+
+-- what is called live is the least solution of the equations
+abbrev pub Live-least : Type 0
+Live-least = (rows : List Row) → Least (liveness rows) (at (liveness rows) (liveBefore rows))

@@ -1,3 +1,5 @@
+ghost use Rattle.rounds.specs.Liveness.{Live-least};
+
 // A node as it was removed: because it passed the test, or in the hope that a register will be free.
 #[derive(Clone, Copy)]
 pub struct Removed {
@@ -18,4 +20,11 @@ pub struct Offer {
 pub struct Ends {
     pub d: u16,
     pub a: u16,
+}
+
+// What is called live is the least solution of the equations of liveness.
+pub fn liveness_is_least() -> u8
+    ensures { λ _. ⌜ Live-least ⌝ }
+{
+    0
 }

@@ -15,7 +15,7 @@ use Rattle.registers.specs.Description.{Description, fenced, lowest}
 use Rattle.compiling.specs.Working.{Compiled}
 use Rattle.compiling.specs.Compile.{compile}
 use Rattle.machine.specs.declared.Played.{Played}
-use Rattle.machine.specs.Rehearsal.{Call, opened}
+use Rattle.machine.specs.Rehearsal.{Call, opened, Event, Counts, noCounts, tally}
 use Rattle.machine.specs.OnBits.{Stage, Answered, calledOn}
 
 -- the bits of a chip after each register below n was written a number of its own
@@ -74,3 +74,24 @@ putOut (Refuses e) = ([], [])
 unfoldable pub outputs : Description → List ℕ → List Call → List ℕ × List ℕ
 unfolding rehearse
 outputs d bs xs = putOut (rehearse d bs xs)
+
+-- the answers that were shown
+abbrev pub answersIn : Shown → List (Result Played PlayerFault)
+answersIn (Shows answers sourceOut codeOut registers slots) = answers
+answersIn (Refuses e) = []
+
+-- the answers to a list of calls
+unfoldable pub answered : Description → List ℕ → List Call → List (Result Played PlayerFault)
+unfolding rehearse
+answered d bs xs = answersIn (rehearse d bs xs)
+
+-- calls with their answers
+unfoldable pub events : List Call → List (Result Played PlayerFault) → List Event
+events [] answers = []
+events (x ∷ xs) [] = []
+events (x ∷ xs) (a ∷ answers) = record { call = x; answer = a } ∷ events xs answers
+
+-- the rows asked and played in a list of calls
+unfoldable pub counts : Description → List ℕ → List Call → Counts
+unfolding answered events tally
+counts d bs xs = tally noCounts (events xs (answered d bs xs))

@@ -1,3 +1,6 @@
+ghost use Rattle.chips.specs.NestedChip.{nestedFile, nestedLow};
+ghost use Rattle.chips.specs.PairedChip.{pairedFile, pairedLow};
+ghost use Rattle.machine.specs.OnBits.{Allowed};
 ghost use Rattle.worked.specs.Table.{Cases};
 ghost use Rattle.worked.specs.Generated.{Generated, Rehearsals};
 
@@ -18,6 +21,14 @@ pub fn generated_files() -> u8
 // The definitions rehearse them as the reference does.
 pub fn generated_rehearsals() -> u8
     ensures { λ _. ⌜ Rehearsals ⌝ }
+{
+    0
+}
+
+// What is computed of rehearsals on either chip is what the rules allow.
+pub fn calls_on_bits() -> u8
+    ensures nested { λ _. ⌜ Allowed nestedFile nestedLow ⌝ }
+    ensures paired { λ _. ⌜ Allowed pairedFile pairedLow ⌝ }
 {
     0
 }

@@ -1,0 +1,2 @@
+pub mod Lively
+pub mod Members
