@@ -110,7 +110,6 @@ pub record Static (c : Compiled) (file : Model) : Type 0 where
   pub liveLast : ℕ → ℕ → Bool
   pub start : ℕ → ℕ
   pub lawful : Lawful file
-  pub source : last .source ≡ c .source
   pub sound : Sound (c .source)
   pub lively : Lively (rowOf (c .source)) live
   pub entry : (v : ℕ) → live 0 v ≡ false
