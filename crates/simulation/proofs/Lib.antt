@@ -1,0 +1,6 @@
+pub mod Effects
+pub mod Carry
+pub mod Blocks
+pub mod Whole
+pub mod Coded
+pub mod Calls
