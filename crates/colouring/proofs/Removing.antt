@@ -1,18 +1,17 @@
 -- Removal takes each node that is left once, by the test or in hope.
 use mathlib.Core.Path.{_≡_, refl, sym, ap, _∙_}
-use mathlib.Core.Bool.{Bool, true, false, cond, not, _&&_, _||_}
-use mathlib.Core.List.{List, [], _∷_}
+use mathlib.Core.Bool.{Bool, true, false, cond, not, _&&_}
+use mathlib.Core.List.{List, _∷_}
 use mathlib.Core.Logic.{_⊎_, inl, inr}
-use Prim.Native.Nat.{ℕ, zero, suc, _+_, _*_, _≤_, _<_}
+use Prim.Native.Nat.{ℕ, zero, suc, _*_, _≤_, _<_}
 use native.Mathlib.Omega.{arith}
 use lib.Dec.{eqb, ltb}
 use lib.ListN.{length, getD}
 use Rattle.std.proofs.shelf.Tests.{cases-bool, cases-lt, cases-eq, both-ways, and-from, and-parts, eq-eqb, ne-eqb, lt-ltb, le-ltb, ltb-true}
-use Rattle.std.proofs.shelf.Ways.{tells}
-use Rattle.counting.specs.Counting.{sum, count, least}
+use Rattle.counting.specs.Counting.{least}
 use Rattle.counting.proofs.Sums.{sum-below}
 use Rattle.counting.proofs.Searches.{least-below, least-found}
-use Rattle.sets.specs.Sets.{has, single, meet, minus, size}
+use Rattle.sets.specs.Sets.{has, single, minus, size}
 use Rattle.sets.proofs.Members.{has-meet, has-minus, has-single}
 use Rattle.registers.specs.Model.{Model}
 use Rattle.rounds.specs.declared.Removed.{Removed}
@@ -21,7 +20,7 @@ use Rattle.rounds.specs.Interference.{Graph, neighbours, classAt}
 use Rattle.rounds.specs.Pressure.{pressure, passes}
 use Rattle.rounds.specs.Simplify.{remaining, removable, noOffer, better, cheapest, nextRemoved, removals}
 use Rattle.colouring.specs.Selecting.{Proper, listed, later, Rightly, Orderly}
-use Rattle.colouring.specs.Removing.{Among, None-passes, Never-stuck, All-removed}
+use Rattle.colouring.specs.Removing.{Among, Never-stuck, All-removed}
 use Rattle.colouring.proofs.Counts.{some-found, none-counted, count-without}
 
 cond-le : (a b : Bool) (x : ℕ) → (a ≡ true → b ≡ true) → cond a x 0 ≤ cond b x 0
@@ -31,7 +30,7 @@ module _ (m : Model) (g : Graph) where
   -- fewer nodes press less
   pub pressure-fewer : (v : ℕ) (s t : ℕ → Bool) → ((k : ℕ) → s k ≡ true → t k ≡ true) → pressure m g v s ≤ pressure m g v t
   unfolding pressure
-  pressure-fewer v s t h = sum-below _ _ _ (λ k b. cond-le (s k) (t k) (m .q (classAt g v) (classAt g k)) (h k))
+  pressure-fewer v s t h = sum-below _ _ _ (λ k b. cond-le (s k) (t k) _ (h k))
 
   pub passes-fewer : (v : ℕ) (s t : ℕ → Bool) → ((k : ℕ) → s k ≡ true → t k ≡ true) → passes m g v t ≡ true → passes m g v s ≡ true
   unfolding passes

@@ -1,30 +1,29 @@
 -- A round ends settled.
 use mathlib.Core.Path.{_≡_, refl, sym, ap, _∙_}
-use mathlib.Core.Bool.{Bool, true, false, cond, not, _&&_, _||_}
+use mathlib.Core.Bool.{Bool, true, false, not, _&&_}
 use mathlib.Core.List.{List, [], _∷_, map}
-use mathlib.Core.Logic.{_⊎_, inl, inr}
+use mathlib.Core.Logic.{inl, inr}
 use Prim.Native.Nat.{ℕ, zero, suc, _≤_, _<_}
 use native.Mathlib.Omega.{arith}
 use lib.Dec.{eqb, ltb}
 use lib.ListN.{length, getD, length-map}
-use Rattle.std.proofs.shelf.Tests.{cases-bool, cases-lt, cases-eq, both-ways, and-from, and-parts, lt-ltb, le-ltb, ltb-true, ltb-false, eqb-true, eq-eqb, ne-eqb, not-true, not-from-false, cond-true, cond-false}
-use Rattle.std.proofs.shelf.Ways.{tells}
-use Rattle.counting.specs.Counting.{range}
-use Rattle.sets.specs.Sets.{has, single, union, when, size}
+use Rattle.std.proofs.shelf.Tests.{cases-bool, cases-lt, cases-eq, both-ways, and-from, and-parts, lt-ltb, le-ltb, ltb-false, eqb-true, eq-eqb, ne-eqb, not-true, not-from-false, cond-true, cond-false}
+use Rattle.counting.specs.Counting.{range, any}
+use Rattle.counting.proofs.Searches.{any-found}
+use Rattle.sets.specs.Sets.{has, single, when, size}
 use Rattle.sets.proofs.Members.{has-union, has-when, has-single, has-none}
 use Rattle.rows.specs.declared.Row.{Row}
 use Rattle.registers.specs.Model.{Model, Lawful}
 use Rattle.rounds.specs.declared.Removed.{Removed}
 use Rattle.rounds.specs.declared.Ends.{Ends}
-use Rattle.rounds.specs.Interference.{Graph, neighbours, classAt, nodeAt, interference}
+use Rattle.rounds.specs.Interference.{Graph, nodeAt, interference}
 use Rattle.rounds.specs.Coalescing.{merged, noEnds, firstMergeable, coalesced, copiesIn}
-use Rattle.rounds.specs.Liveness.{liveAfter}
 use Rattle.rounds.specs.Simplify.{cost, removals}
 use Rattle.rounds.specs.Select.{registerOf, selected}
-use Rattle.rounds.specs.Round.{Outcome, those, graphOf, orderOf, round, colours, hopedFor}
-use Rattle.colouring.specs.Selecting.{Proper, Separate, listed, Rightly, Orderly}
-use Rattle.colouring.specs.Removing.{Never-stuck, Paired}
+use Rattle.rounds.specs.Round.{those, graphOf, orderOf, round, hopedFor}
+use Rattle.colouring.specs.Selecting.{Proper, listed, Orderly}
 use Rattle.colouring.specs.Rounds.{Settled, Round-settles, Paired-settles}
+use Rattle.colouring.proofs.Counts.{any-false}
 use Rattle.colouring.proofs.Selecting.{neighbours-apart, tested-nodes-find}
 use Rattle.colouring.proofs.Removing.{all-removed}
 use Rattle.colouring.proofs.Sticking.{temporaries-pass}
@@ -42,6 +41,21 @@ has-those t (suc n) k =
         | inr h ↦ rw (le-ltb k n h, le-ltb k (suc n) (omega arith)) (grind arith)
       ])
     ]))
+
+those-none : (t : ℕ → Bool) (n : ℕ) → ((k : ℕ) → k < n → t k ≡ false) → those t n ≡ 0
+unfolding those
+those-none t zero h = refl
+those-none t (suc n) h = rw (h n (omega arith), those-none t n (λ k l. h k (omega arith)))
+
+-- the set is empty, or has a member
+pub those-some : (t : ℕ → Bool) (n : ℕ) → eqb (those t n) 0 ≡ false → (k : ℕ) × (has (those t n) k ≡ true)
+those-some t n e = elim (cases-bool (any t n)) [
+  | inl f ↦ member (any-found t n f)
+  | inr f ↦ absurd (both-ways _ e (eq-eqb (those t n) 0 (those-none t n (λ k l. any-false t n k f l))))
+]
+  where
+    member : (k : ℕ) × (k < n) × (t k ≡ true) → (k : ℕ) × (has (those t n) k ≡ true)
+    member (k, l, f) = (k, has-those t n k ∙ and-from _ _ (lt-ltb k n l) f)
 
 pub length-range : (n j : ℕ) → length (range n j) ≡ n
 unfolding range
@@ -101,6 +115,7 @@ module _ (m : Model) (l : Lawful m) (vars : ℕ) (g : Graph) (pr : Proper g) (or
     spilled-node = λ v e. bare-parts v e .0;
     spilled-none = λ v e. bare-parts v e .1;
     spilled-hoped = bare-hoped;
+    spilled-some = those-some bare n;
     spilled-source = λ v e. hoped-source m g vars order orderly v (bare-hoped v e);
     coloured = λ c v e. elim (cases-lt (registerOf m taken v) (m .count)) [
       | inl h ↦ h

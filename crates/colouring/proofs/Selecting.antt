@@ -1,25 +1,25 @@
 -- Selection keeps neighbours apart, and a node marked tested finds a register.
-use mathlib.Core.Path.{_≡_, refl, sym, ap, _∙_}
-use mathlib.Core.Bool.{Bool, true, false, cond, not, _&&_, _||_}
+use mathlib.Core.Path.{_≡_, refl, sym, _∙_}
+use mathlib.Core.Bool.{true, false, cond, _&&_, _||_}
 use mathlib.Core.List.{List, [], _∷_}
-use mathlib.Core.Logic.{_⊎_, inl, inr}
-use Prim.Native.Nat.{ℕ, zero, suc, _+_, _≤_, _<_}
+use mathlib.Core.Logic.{inl, inr}
+use Prim.Native.Nat.{ℕ, _<_}
 use native.Mathlib.Omega.{arith}
-use lib.Dec.{eqb, ltb}
-use lib.ListN.{length, getD, set, replicate, length-set, length-replicate, getD-replicate}
+use lib.Dec.{eqb}
+use lib.ListN.{length, set, replicate, length-set, length-replicate, getD-replicate}
 use lib.Seq.{getD-set-same, getD-set-other}
 use Rattle.std.proofs.shelf.Lists.{getD-past, set-past}
-use Rattle.std.proofs.shelf.Tests.{cases-bool, cases-lt, cases-eq, both-ways, and-from, and-parts, or-left, or-right, or-parts, not-true, not-from-false, eq-eqb, ne-eqb, ltb-true, cond-true}
+use Rattle.std.proofs.shelf.Tests.{cases-lt, cases-eq, both-ways, and-from, and-parts, or-left, or-right, not-true, not-from-false, eq-eqb, ne-eqb, ltb-true, cond-true}
 use Rattle.counting.specs.Counting.{any}
 use Rattle.counting.proofs.Searches.{any-none}
 use Rattle.sets.specs.Sets.{has}
 use Rattle.registers.specs.Model.{Model, Lawful}
 use Rattle.rounds.specs.declared.Removed.{Removed}
 use Rattle.rounds.specs.Interference.{Graph, neighbours, classAt}
-use Rattle.rounds.specs.Pressure.{pressure, passes}
+use Rattle.rounds.specs.Pressure.{passes}
 use Rattle.rounds.specs.Select.{registerOf, free, choice, selected}
 use Rattle.rounds.specs.Round.{hopedFor}
-use Rattle.colouring.specs.Selecting.{Proper, Chooses, Separate, Neighbours-apart, listed, later, Rightly, Orderly, Tested-find}
+use Rattle.colouring.specs.Selecting.{Proper, Separate, Neighbours-apart, listed, later, Orderly, Tested-find}
 use Rattle.colouring.proofs.Counts.{any-false}
 use Rattle.colouring.proofs.Suffices.{none-apart, turned, test-suffices}
 use Rattle.colouring.proofs.Choosing.{choice-free}

@@ -1,21 +1,21 @@
 -- Removal never sticks where temporaries are paired at most.
-use mathlib.Core.Path.{_≡_, refl, sym, ap, _∙_}
-use mathlib.Core.Bool.{Bool, true, false, cond, _&&_}
-use mathlib.Core.Logic.{_⊎_, inl, inr}
+use mathlib.Core.Path.{_≡_, sym, _∙_}
+use mathlib.Core.Bool.{true, false, _&&_}
+use mathlib.Core.Logic.{inl, inr}
 use Prim.Native.Nat.{ℕ, _≤_, _<_}
 use native.Mathlib.Omega.{arith}
 use lib.ListN.{length}
-use Rattle.std.proofs.shelf.Tests.{cases-bool, cases-lt, both-ways, and-cases, and-parts, lt-ltb, ltb-false}
-use Rattle.counting.specs.Counting.{sum, any}
+use Rattle.std.proofs.shelf.Tests.{cases-bool, cases-lt, both-ways, and-cases, and-parts, ltb-false}
+use Rattle.counting.specs.Counting.{any}
 use Rattle.counting.proofs.Searches.{any-found}
-use Rattle.sets.specs.Sets.{has, meet}
+use Rattle.sets.specs.Sets.{has}
 use Rattle.sets.proofs.Members.{has-meet}
 use Rattle.registers.specs.Model.{Model, Lawful}
 use Rattle.rounds.specs.Interference.{Graph, neighbours, classAt}
 use Rattle.rounds.specs.Pressure.{pressure, passes}
 use Rattle.rounds.specs.Simplify.{remaining, removable}
 use Rattle.colouring.specs.Selecting.{Proper}
-use Rattle.colouring.specs.Removing.{Among, None-passes, Never-stuck, Paired, Temporaries-pass}
+use Rattle.colouring.specs.Removing.{Among, None-passes, Paired, Temporaries-pass}
 use Rattle.colouring.proofs.Counts.{any-false, sum-one}
 
 module _ (m : Model) (l : Lawful m) (g : Graph) (pr : Proper g) (vars : ℕ) (pa : Paired g vars) (left : ℕ) (among : Among g left) where

@@ -1,16 +1,16 @@
 -- The test suffices: registers of a class that neighbours block are at most their pressure.
-use mathlib.Core.Path.{_≡_, refl, sym, _∙_}
-use mathlib.Core.Bool.{Bool, true, false, cond, _&&_, _||_}
-use mathlib.Core.Logic.{_⊎_, inl, inr}
-use Prim.Native.Nat.{ℕ, zero, suc, _+_, _≤_, _<_}
+use mathlib.Core.Path.{_≡_}
+use mathlib.Core.Bool.{Bool, true, false, cond, _&&_}
+use mathlib.Core.Logic.{inl, inr}
+use Prim.Native.Nat.{ℕ, zero, suc, _≤_, _<_}
 use native.Mathlib.Omega.{arith}
 use lib.ListN.{length}
-use Rattle.std.proofs.shelf.Tests.{cases-bool, cases-lt, cond-true, both-ways, and-from, and-parts, or-cases}
+use Rattle.std.proofs.shelf.Tests.{cases-bool, cases-lt, cond-true, both-ways}
 use Rattle.counting.specs.Counting.{sum, count, any}
 use Rattle.counting.proofs.Sums.{count-none}
-use Rattle.registers.specs.Model.{Model, Lawful, clashes}
+use Rattle.registers.specs.Model.{Model, Lawful}
 use Rattle.registers.proofs.Bounds.{few-clashes}
-use Rattle.rounds.specs.Interference.{Graph, classAt}
+use Rattle.rounds.specs.Interference.{classAt}
 use Rattle.rounds.specs.Pressure.{pressure}
 use Rattle.rounds.specs.Select.{registerOf}
 use Rattle.colouring.specs.Selecting.{Test-suffices}

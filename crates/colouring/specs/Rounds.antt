@@ -6,7 +6,6 @@ use Prim.Native.Nat.{ℕ, _<_, _≤_}
 use Rattle.sets.specs.Sets.{has}
 use Rattle.rows.specs.declared.Row.{Row}
 use Rattle.registers.specs.Model.{Model, Lawful}
-use Rattle.rounds.specs.Interference.{neighbours, classAt}
 use Rattle.rounds.specs.Select.{registerOf}
 use Rattle.rounds.specs.Round.{Outcome, round, colours, hopedFor}
 use Rattle.colouring.specs.Selecting.{Proper, Separate, listed, Orderly}
@@ -21,6 +20,7 @@ pub record Settled (m : Model) (vars : ℕ) (o : Outcome) : Type 0 where
   pub spilled-node : (v : ℕ) → has (o .spilled) v ≡ true → has (o .graph .nodes) v ≡ true
   pub spilled-none : (v : ℕ) → has (o .spilled) v ≡ true → m .count ≤ registerOf m (o .registers) v
   pub spilled-hoped : (v : ℕ) → has (o .spilled) v ≡ true → hopedFor (o .order) v ≡ true
+  pub spilled-some : colours o ≡ false → (v : ℕ) × (has (o .spilled) v ≡ true)
   pub spilled-source : (v : ℕ) → has (o .spilled) v ≡ true → v < vars
   pub coloured : colours o ≡ true → (v : ℕ) → has (o .graph .nodes) v ≡ true → registerOf m (o .registers) v < m .count
 
