@@ -1,6 +1,6 @@
 -- Selection keeps neighbours apart, and a node marked tested finds a register.
 use mathlib.Core.Path.{_≡_, refl, sym, _∙_}
-use mathlib.Core.Bool.{true, false, cond, _&&_, _||_}
+use mathlib.Core.Bool.{Bool, true, false, cond, _&&_, _||_}
 use mathlib.Core.List.{List, [], _∷_}
 use mathlib.Core.Logic.{inl, inr}
 use Prim.Native.Nat.{ℕ, _<_}
@@ -16,10 +16,10 @@ use Rattle.sets.specs.Sets.{has}
 use Rattle.registers.specs.Model.{Model, Lawful}
 use Rattle.rounds.specs.declared.Removed.{Removed}
 use Rattle.rounds.specs.Interference.{Graph, neighbours, classAt}
-use Rattle.rounds.specs.Pressure.{passes}
+use Rattle.rounds.specs.Pressure.{pressure, passes}
 use Rattle.rounds.specs.Select.{registerOf, free, choice, selected}
 use Rattle.rounds.specs.Round.{hopedFor}
-use Rattle.colouring.specs.Selecting.{Proper, Separate, Neighbours-apart, listed, later, Orderly, Tested-find}
+use Rattle.colouring.specs.Selecting.{Proper, Classed, Clear, Counted, Test-finds, Separate, Neighbours-apart, listed, later, Orderly, Tested-find}
 use Rattle.colouring.proofs.Counts.{any-false}
 use Rattle.colouring.proofs.Suffices.{none-apart, turned, test-suffices}
 use Rattle.colouring.proofs.Choosing.{choice-free}
@@ -51,14 +51,19 @@ module _ (m : Model) (l : Lawful m) (g : Graph) where
   free-from taken v r of clear =
       and-from _ _ of (not-from-false _ (any-none (λ k. has (neighbours g v) k && m .overlaps r (registerOf m taken k)) _ (λ k h. let c = clear k h in grind (arith, c))))
 
-  -- v has taken r
-  abbrev with-one : List ℕ → ℕ → ℕ → List ℕ
-  with-one taken v r = set taken v r
+  -- under a pressure below p, by all neighbours that have registers, the choice is a register
+  pub test-finds : (taken : List ℕ) (v : ℕ) (t : ℕ → Bool) → Classed m g taken t → Counted m g taken v t → pressure m g v t < m .p (classAt g v) → choice m g taken v < m .count
+  test-finds taken v t classed counted low = found (test-suffices m l g taken v t classed low)
+    where
+      found : (r : ℕ) × (m .belongs r (classAt g v) ≡ true) × Clear m g taken t r → choice m g taken v < m .count
+      found (r, of, clear) = choice-free m g taken v .found r (l .outside r _ of .0) (free-from taken v r of (λ k b e.
+          elim (cases-lt (registerOf m taken k) (m .count)) [ inl h ↦ clear k b (counted k b e h) | inr h ↦ none-apart m l r _ h ]))
 
-  here : (taken : List ℕ) (v r : ℕ) → v < length taken → registerOf m (with-one taken v r) v ≡ r
+  -- who has which register when v has taken r
+  here : (taken : List ℕ) (v r : ℕ) → v < length taken → registerOf m (set taken v r) v ≡ r
   here taken v r h = getD-set-same taken v r (m .count) h
 
-  there : (taken : List ℕ) (v r k : ℕ) → (k ≡ v → ⊥) → registerOf m (with-one taken v r) k ≡ registerOf m taken k
+  there : (taken : List ℕ) (v r k : ℕ) → (k ≡ v → ⊥) → registerOf m (set taken v r) k ≡ registerOf m taken k
   there taken v r k h = getD-set-other taken v k r (m .count) h
 
   module _ (pr : Proper g) where
@@ -120,15 +125,7 @@ module _ (m : Model) (l : Lawful m) (g : Graph) where
     -- a node that passes against its neighbours in rs finds a register when these have returned
     pub finds : (rs : List Removed) (v : ℕ) → passes m g v (later g rs v) ≡ true → choice m g (selected m g rs) v < m .count
     unfolding passes
-    finds rs v e =
-        let taken = selected m g rs in
-        let ok = separate rs in
-        found taken (holders rs) (test-suffices m l g taken v (later g rs v) (λ k _ h. ok .fits k h) (ltb-true _ _ e))
-      where
-        found : (taken : List ℕ) → ((k : ℕ) → registerOf m taken k < m .count → listed rs k ≡ true) → (r : ℕ) × (m .belongs r (classAt g v) ≡ true) × ((k : ℕ) → k < length (g .classes) → later g rs v k ≡ true → m .overlaps r (registerOf m taken k) ≡ false) →
-            choice m g taken v < m .count
-        found taken holds (r, of, clear) = choice-free m g taken v .found r (l .outside r _ of .0) (free-from taken v r of (λ k b e.
-            elim (cases-lt (registerOf m taken k) (m .count)) [ inl h ↦ clear k b (and-from _ _ e (holds k h)) | inr h ↦ none-apart m l r _ h ]))
+    finds rs v e = test-finds (selected m g rs) v (later g rs v) (λ k _ h. separate rs .fits k h) (λ k b f h. and-from _ _ f (holders rs k h)) (ltb-true _ _ e)
 
     pub tested-find : (vars : ℕ) (order : List Removed) → Orderly m g vars order → (v : ℕ) → listed order v ≡ true → hopedFor order v ≡ false → registerOf m (selected m g order) v < m .count
     unfolding selected listed hopedFor
@@ -145,6 +142,9 @@ module _ (m : Model) (l : Lawful m) (g : Graph) where
               let away = ne-eqb (r .node) v p in
               rw (there taken (r .node) (choice m g taken (r .node)) v (λ q. p (sym q))) (tested-find vars rs rest v (rw away at is′) (rw away at ho′)))
         ]
+
+pub test-finds-registers : Test-finds
+test-finds-registers m l g taken v t classed counted low = test-finds m l g taken v t classed counted low
 
 pub neighbours-apart : Neighbours-apart
 neighbours-apart m l g pr order = separate m l g pr order

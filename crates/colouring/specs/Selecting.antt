@@ -41,6 +41,15 @@ pub record Chooses (m : Model) (g : Graph) (taken : List ℕ) (v : ℕ) : Type 0
 abbrev pub Choice-free : Type 0
 Choice-free = (m : Model) (g : Graph) (taken : List ℕ) (v : ℕ) → Chooses m g taken v
 
+-- every neighbour of v that has a register passes t
+abbrev pub Counted : Model → Graph → List ℕ → ℕ → (ℕ → Bool) → Type 0
+Counted m g taken v t = (k : ℕ) → k < length (g .classes) → has (neighbours g v) k ≡ true → registerOf m taken k < m .count → t k ≡ true
+
+-- so v takes a register, if the pressure counts all its neighbours that have one
+abbrev pub Test-finds : Type 0
+Test-finds = (m : Model) → Lawful m → (g : Graph) (taken : List ℕ) (v : ℕ) (t : ℕ → Bool) →
+    Classed m g taken t → Counted m g taken v t → pressure m g v t < m .p (classAt g v) → choice m g taken v < m .count
+
 -- registers of neighbours do not overlap, and each register is of its node's class; the number that stands for none overlaps nothing
 pub record Separate (m : Model) (g : Graph) (taken : List ℕ) : Type 0 where
   pub whole : length taken ≡ length (g .classes)

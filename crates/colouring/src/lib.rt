@@ -1,5 +1,5 @@
 // Colouring: what removal and selection promise, as theorems about the definitions of rounds.
-ghost use Rattle.colouring.specs.Selecting.{Test-suffices, Choice-free, Neighbours-apart, Tested-find};
+ghost use Rattle.colouring.specs.Selecting.{Test-suffices, Choice-free, Test-finds, Neighbours-apart, Tested-find};
 ghost use Rattle.colouring.specs.Removing.{All-removed, Temporaries-pass};
 ghost use Rattle.colouring.specs.Rounds.{Round-settles, Paired-settles};
 
@@ -13,6 +13,13 @@ pub fn test_suffices() -> u8
 /// Selection takes some free register whenever there is one.
 pub fn choice_is_free() -> u8
     ensures { λ _. ⌜ Choice-free ⌝ }
+{
+    0
+}
+
+/// Under a pressure below p, by all neighbours that have registers, a node takes a register.
+pub fn test_finds_a_register() -> u8
+    ensures { λ _. ⌜ Test-finds ⌝ }
 {
     0
 }
