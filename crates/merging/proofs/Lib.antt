@@ -1,0 +1,3 @@
+pub mod Contracting
+pub mod Merging
+pub mod Rounds
