@@ -131,6 +131,11 @@ by-judging : (r : Result Program RowFault) (p : Program) → judged r ≡ Ok p �
 by-judging (Ok q) p h = let (a, b) = by-fault (factFault q) q p h in (ap Ok b, subst (λ (x : Program). factFault x ≡ None) b a)
 by-judging (Err e) p h = absurd (let z : _≡_ {A = ℕ} 0 1 = cc in omega arith)
 
+-- an admitted program was read
+pub admitted-read : (bs : List ℕ) (p : Program) → admitting bs ≡ Ok p → reading bs ≡ Ok p
+unfolding admitting
+admitted-read bs p h = by-judging (reading bs) p h .0
+
 pub admitted-sure : (bs : List ℕ) (p : Program) → admitting bs ≡ Ok p → AllSure (p .vars) (p .rows)
 unfolding admitting
 admitted-sure bs p h = none-fault p (by-judging (reading bs) p h .1)

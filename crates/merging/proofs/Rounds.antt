@@ -11,7 +11,6 @@ use Rattle.std.proofs.shelf.Tests.{cases-bool, both-ways, or-left, and-parts, e
 use Rattle.sets.specs.Sets.{has}
 use Rattle.rows.specs.declared.Op.{Op}
 use Rattle.rows.specs.declared.Op.the-variants.{End, Const, Copy, Add, Sub, And, Xor, Widen, Narrow, Input, Output, Jump, Less, Load, Store}
-use Rattle.rows.specs.declared.Shape.{Shape}
 use Rattle.rows.specs.declared.Row.{Row}
 use Rattle.rows.specs.Rows.{copies, shape, reads, writes, rowAt}
 use Rattle.facts.specs.Flow.{holds}
@@ -27,34 +26,35 @@ use Rattle.interfering.proofs.Edges.{interferes, proper as rows-proper}
 use Rattle.merging.specs.Merging.{Joins, AllJoin, Coalesces, Alike}
 use Rattle.merging.proofs.Merging.{merging-keeps}
 
-copy-shape : (o : Op) → copies o ≡ true → shape o ≡ shape Copy
-copy-shape End h = absurd (both-ways false refl h)
-copy-shape Const h = absurd (both-ways false refl h)
-copy-shape Copy h = refl
-copy-shape Add h = absurd (both-ways false refl h)
-copy-shape Sub h = absurd (both-ways false refl h)
-copy-shape And h = absurd (both-ways false refl h)
-copy-shape Xor h = absurd (both-ways false refl h)
-copy-shape Widen h = absurd (both-ways false refl h)
-copy-shape Narrow h = absurd (both-ways false refl h)
-copy-shape Input h = absurd (both-ways false refl h)
-copy-shape Output h = absurd (both-ways false refl h)
-copy-shape Jump h = absurd (both-ways false refl h)
-copy-shape Less h = absurd (both-ways false refl h)
-copy-shape Load h = absurd (both-ways false refl h)
-copy-shape Store h = absurd (both-ways false refl h)
+-- the one opcode that copies
+pub copy-is : (o : Op) → copies o ≡ true → o ≡ Copy
+copy-is End h = absurd (both-ways false refl h)
+copy-is Const h = absurd (both-ways false refl h)
+copy-is Copy h = refl
+copy-is Add h = absurd (both-ways false refl h)
+copy-is Sub h = absurd (both-ways false refl h)
+copy-is And h = absurd (both-ways false refl h)
+copy-is Xor h = absurd (both-ways false refl h)
+copy-is Widen h = absurd (both-ways false refl h)
+copy-is Narrow h = absurd (both-ways false refl h)
+copy-is Input h = absurd (both-ways false refl h)
+copy-is Output h = absurd (both-ways false refl h)
+copy-is Jump h = absurd (both-ways false refl h)
+copy-is Less h = absurd (both-ways false refl h)
+copy-is Load h = absurd (both-ways false refl h)
+copy-is Store h = absurd (both-ways false refl h)
 
 -- a copy reads a and writes d
 copy-reads : (r : Row) → copies (r .op) ≡ true → holds (reads r) (r .a) ≡ true
 unfolding holds
 copy-reads r h =
-    let s : shape (r .op) .a ≡ true = ap (λ (x : Shape). x .a) (copy-shape (r .op) h) in
+    let s : shape (r .op) .a ≡ true = ap (λ (o : Op). shape o .a) (copy-is (r .op) h) in
     rw (s, eq-eqb (r .a) (r .a) refl)
 
 copy-writes : (r : Row) → copies (r .op) ≡ true → holds (writes r) (r .d) ≡ true
 unfolding holds
 copy-writes r h =
-    let s : shape (r .op) .d ≡ true = ap (λ (x : Shape). x .d) (copy-shape (r .op) h) in
+    let s : shape (r .op) .d ≡ true = ap (λ (o : Op). shape o .d) (copy-is (r .op) h) in
     rw (s, eq-eqb (r .d) (r .d) refl)
 
 -- a row is the one that a copy of the list came from

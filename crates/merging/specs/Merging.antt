@@ -3,11 +3,13 @@ use mathlib.Core.Path.{_≡_}
 use mathlib.Core.Bool.{Bool, true, false, _&&_}
 use mathlib.Core.List.{List}
 use Prim.Native.Nat.{ℕ, _<_, _≤_}
-use lib.Dec.{eqb}
+use lib.Dec.{eqb, ltb}
 use lib.ListN.{length, getD}
+use Rattle.std.specs.declared.result.Result.the-variants.{Ok}
 use Rattle.sets.specs.Sets.{has}
 use Rattle.rows.specs.declared.Row.{Row}
-use Rattle.rows.specs.Rows.{copies, rowAt}
+use Rattle.rows.specs.Rows.{copies, rowAt, Program}
+use Rattle.admission.specs.Admission.{admitting}
 use Rattle.registers.specs.Model.{Model}
 use Rattle.rounds.specs.declared.Ends.{Ends}
 use Rattle.rounds.specs.Liveness.{liveAfter}
@@ -83,3 +85,8 @@ No-hard-edge-inside = (m : Model) (vars : ℕ) (classes : List ℕ) (nodes : ℕ
 abbrev pub Members-share-a-class : Type 0
 Members-share-a-class = (m : Model) (vars : ℕ) (classes : List ℕ) (nodes : ℕ) (rows : List Row) → Names classes nodes rows → Alike classes rows →
     (v w : ℕ) → nodeAt (graphOf m vars classes nodes rows) v ≡ nodeAt (graphOf m vars classes nodes rows) w → getD classes v 0 ≡ getD classes w 0
+
+-- an admitted program names only its own variables, and copies within a class; so its first round merges as said
+abbrev pub Admitted-in-order : Type 0
+Admitted-in-order = (bs : List ℕ) (p : Program) → admitting bs ≡ Ok p → (nodes : ℕ) → ((v : ℕ) → has nodes v ≡ ltb v (p .vars)) →
+    Names (p .classes) nodes (p .rows) × Alike (p .classes) (p .rows)
