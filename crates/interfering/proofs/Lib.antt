@@ -1,0 +1,3 @@
+pub mod Living
+pub mod Starting
+pub mod Edges

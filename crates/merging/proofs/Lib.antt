@@ -1,0 +1,4 @@
+pub mod Contracting
+pub mod Merging
+pub mod Rounds
+pub mod First
