@@ -5,3 +5,4 @@ pub mod Selecting
 pub mod Removing
 pub mod Sticking
 pub mod Rounds
+pub mod Example
