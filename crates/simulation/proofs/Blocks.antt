@@ -1,21 +1,18 @@
 -- One source row is one block of the working program.
-use mathlib.Core.Path.{_≡_, refl, sym, ap, _∙_, subst}
-use mathlib.Core.Bool.{Bool, true, false, cond, _&&_, _||_, not}
+use mathlib.Core.Path.{_≡_, refl, sym, ap, _∙_}
+use mathlib.Core.Bool.{Bool, true, false, cond}
 use mathlib.Core.List.{List}
-use mathlib.Core.Logic.{_⊎_, inl, inr}
-use Prim.Native.Nat.{ℕ, zero, suc, _+_, _*_, _-_, _%_, _^_, _≤_, _<_}
+use mathlib.Core.Logic.{inl, inr}
+use Prim.Native.Nat.{ℕ, zero, suc, _+_, _%_, _^_, _≤_, _<_}
 use native.Mathlib.Omega.{arith}
-use native.Mathlib.Nat.{mod-lt, mod-eq-of-lt, add-zero, add-suc}
-use lib.Pow.{pow-pos, pow-mono}
-use lib.Dec.{eqb, ltb}
-use Rattle.std.proofs.shelf.Tests.{cases-bool, cases-lt, cases-eq, eqb-true, eqb-false, eq-eqb, ne-eqb, cond-both, cond-true, cond-false, and-parts, and-from, both-ways, true≢false}
-use Rattle.rows.specs.declared.Op.{Op}
+use native.Mathlib.Nat.{mod-eq-of-lt, add-zero}
+use Rattle.std.proofs.shelf.Tests.{cases-bool, cases-eq, cond-true, cond-false, and-parts, and-from, both-ways, true≢false}
 use Rattle.rows.specs.declared.Op.the-variants.{Load, Store}
 use Rattle.rows.specs.declared.Row.{Row}
 use Rattle.rows.specs.Rows.{shape, copies, bits, Program}
 use Rattle.compiling.specs.declared.Place.{Place}
 use Rattle.compiling.specs.Working.{spilled}
-use Rattle.machine.specs.Machine.{Shared, put, Effect, effect}
+use Rattle.machine.specs.Machine.{put, Effect}
 use Rattle.machine.specs.Players.{Player, at, writesNow, nextRow, stepped}
 use Rattle.simulation.specs.Static.{rowOf, classOf, Sound, Lively, slotOf, Shares, Loads, Operand, Block, Inner, Stands}
 use Rattle.simulation.proofs.Effects.{effect-same, effect-slots, withSlots, lifted, load-at, store-at, jumped-may, falls-may, write-on, value-small, put-same, put-other, is-copy, copy-effect, arrives, ran-outcome, stop-outcome}

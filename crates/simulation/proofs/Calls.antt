@@ -1,13 +1,11 @@
 -- Any list of calls.
 use mathlib.Core.Path.{_≡_, refl, sym, ap, _∙_, subst}
-use mathlib.Core.Bool.{Bool, true, false, cond, _&&_}
+use mathlib.Core.Bool.{false, cond}
 use mathlib.Core.List.{List, [], _∷_}
 use mathlib.Core.Logic.{_⊎_, inl, inr}
-use Prim.Native.Nat.{ℕ, zero, suc, _+_, _*_, _≤_, _<_}
-use native.Mathlib.Omega.{arith}
+use Prim.Native.Nat.{ℕ, zero, suc, _+_, _≤_, _<_}
 use native.Mathlib.Nat.{add-zero, add-suc}
 use lib.Dec.{eqb}
-use lib.ListN.{length}
 use Rattle.std.specs.declared.result.Result.{Result}
 use Rattle.std.specs.declared.result.Result.the-variants.{Ok, Err}
 use Rattle.std.proofs.shelf.Tests.{cases-eq, eq-eqb, ne-eqb, cond-true, cond-false, and-right, both-ways}
@@ -17,10 +15,9 @@ use Rattle.rows.specs.Rows.{shape, bits, Program, rowAt}
 use Rattle.registers.specs.Model.{Model}
 use Rattle.compiling.specs.Working.{Compiled}
 use Rattle.machine.specs.declared.Played.{Played}
-use Rattle.machine.specs.Machine.{Shared}
-use Rattle.machine.specs.Players.{Player, fresh, running, at, writesNow, nextRow, stepped, run, rowsPlayed, Steps, Runs}
-use Rattle.machine.specs.Rehearsal.{Rehearsal, opened, restarted, withSource, withCode, Call, Restart, PlaySource, PlayCode, Served, Does, Event, Rehearsed, Counts, noCounts, counted, tally}
-use Rattle.machine.specs.Agreement.{Begins, Alike, Agrees, SameAnswers}
+use Rattle.machine.specs.Players.{Player, fresh, running, writesNow, stepped, run, rowsPlayed, Steps, Runs}
+use Rattle.machine.specs.Rehearsal.{Rehearsal, opened, restarted, Call, Restart, PlaySource, PlayCode, Served, Does, Event, Rehearsed, Counts, noCounts, counted, tally}
+use Rattle.machine.specs.Agreement.{Begins, Agrees, SameAnswers}
 use Rattle.simulation.specs.Static.{rowOf, Static, Static-agrees}
 use Rattle.simulation.proofs.Effects.{rests, step-rests}
 use Rattle.simulation.proofs.Carry.{Plays}

@@ -1,22 +1,20 @@
 -- One working row is one row of code, or a copy that falls away.
-use mathlib.Core.Path.{_≡_, refl, sym, ap, _∙_, subst}
-use mathlib.Core.Bool.{Bool, true, false, cond, _&&_, _||_, not}
+use mathlib.Core.Path.{_≡_, refl, sym, ap, _∙_}
+use mathlib.Core.Bool.{Bool, true, false, cond}
 use mathlib.Core.Logic.{_⊎_, inl, inr}
-use Prim.Native.Nat.{ℕ, zero, suc, _+_, _*_, _-_, _%_, _^_, _≤_, _<_}
+use Prim.Native.Nat.{ℕ, zero, suc, _+_, _%_, _^_, _≤_, _<_}
 use native.Mathlib.Omega.{arith}
-use native.Mathlib.Nat.{mod-lt, mod-eq-of-lt}
-use lib.Pow.{pow-pos, pow-mono}
-use lib.Dec.{eqb, ltb}
-use Rattle.std.proofs.shelf.Tests.{cases-bool, cases-lt, cases-eq, eqb-true, eqb-false, eq-eqb, ne-eqb, cond-both, cond-true, cond-false, and-parts, and-from, both-ways}
-use Rattle.std.proofs.shelf.Ways.{tells}
+use native.Mathlib.Nat.{mod-eq-of-lt}
+use lib.Pow.{pow-mono}
+use lib.Dec.{eqb}
+use Rattle.std.proofs.shelf.Tests.{cases-bool, cases-eq, eqb-true, cond-true, and-parts, both-ways}
 use Rattle.sets.specs.Sets.{when}
-use Rattle.rows.specs.declared.Op.{Op}
 use Rattle.rows.specs.declared.Row.{Row}
 use Rattle.rows.specs.Rows.{shape, copies, bits}
 use Rattle.registers.specs.Model.{Model}
 use Rattle.compiling.specs.Emit.{idle}
-use Rattle.machine.specs.Machine.{Shared, put, Effect, effect}
-use Rattle.machine.specs.Players.{Player, running, at, writesNow, nextRow, stepped}
+use Rattle.machine.specs.Machine.{effect}
+use Rattle.machine.specs.Players.{Player, at, writesNow, nextRow, stepped}
 use Rattle.simulation.specs.Static.{Lively}
 use Rattle.simulation.proofs.Effects.{effect-same, write-on, value-small, put-same, put-other, is-copy, copy-effect, arrives, jumped-may}
 

@@ -1,17 +1,16 @@
 -- The rows of code, as a list: where each working row stands in it.
-use mathlib.Core.Path.{_≡_, refl, sym, ap, _∙_, subst}
-use mathlib.Core.Bool.{Bool, true, false, cond, _&&_}
-use mathlib.Core.List.{List, [], _∷_, _++_, map}
-use mathlib.Core.Logic.{_⊎_, inl, inr}
-use Prim.Native.Nat.{ℕ, zero, suc, _+_, _≤_, _<_}
+use mathlib.Core.Path.{_≡_, refl, ap, _∙_}
+use mathlib.Core.Bool.{true, false, cond}
+use mathlib.Core.List.{List, [], _∷_, map}
+use mathlib.Core.Logic.{inl, inr}
+use Prim.Native.Nat.{ℕ, zero, suc, _+_, _<_}
 use native.Mathlib.Omega.{arith}
-use native.Mathlib.Nat.{add-zero, zero-add, add-suc}
-use lib.Dec.{eqb}
+use native.Mathlib.Nat.{zero-add}
 use lib.ListN.{length, getD}
-use Rattle.std.proofs.shelf.Tests.{cases-bool, cond-true, cond-false, both-ways}
+use Rattle.std.proofs.shelf.Tests.{cases-bool}
 use Rattle.sets.specs.Sets.{when}
 use Rattle.rows.specs.declared.Row.{Row}
-use Rattle.rows.specs.Rows.{shape, copies, endRow, rowAt}
+use Rattle.rows.specs.Rows.{shape, rowAt}
 use Rattle.compiling.specs.Blocks.{flat, starts, moved, assembled}
 use Rattle.compiling.specs.Emit.{coded, idle, codeBlock}
 use Rattle.simulation.proofs.Carry.{spot, landed, IsCode}

@@ -1,22 +1,21 @@
 -- What the effect of a row hangs on, and where a row may go.
-use mathlib.Core.Path.{_≡_, refl, sym, ap, _∙_, subst}
-use mathlib.Core.Bool.{Bool, true, false, cond, _&&_, _||_, not}
+use mathlib.Core.Path.{_≡_, refl, sym, ap, _∙_}
+use mathlib.Core.Bool.{Bool, true, false}
 use mathlib.Core.List.{List, [], _∷_, _++_, append-assoc, append-nil}
 use mathlib.Core.Logic.{_⊎_, inl, inr}
-use Prim.Native.Nat.{ℕ, zero, suc, _+_, _*_, _-_, _%_, _^_, _≤_, _<_}
+use Prim.Native.Nat.{ℕ, suc, _%_, _^_, _<_}
 use native.Mathlib.Omega.{arith}
 use native.Mathlib.Nat.{mod-lt, mod-eq-of-lt}
-use lib.Pow.{pow-pos, pow-mono}
-use lib.Dec.{eqb, ltb}
-use lib.ListN.{length}
-use Rattle.std.proofs.shelf.Tests.{cases-bool, cases-lt, cases-eq, eqb-true, eqb-false, eq-eqb, ne-eqb, cond-both, cond-true, cond-false, and-parts, and-from, and-right, both-ways, lt-ltb}
+use lib.Pow.{pow-pos}
+use lib.Dec.{eqb}
+use Rattle.std.proofs.shelf.Tests.{cases-bool, eq-eqb, ne-eqb, cond-true, cond-false, and-from, and-right, lt-ltb}
 use Rattle.std.proofs.shelf.Ways.{tells}
 use Rattle.rows.specs.declared.Op.{Op}
 use Rattle.rows.specs.declared.Op.the-variants.{End, Const, Copy, Add, Sub, And, Xor, Widen, Narrow, Input, Output, Jump, Less, Load, Store}
 use Rattle.rows.specs.declared.Row.{Row}
 use Rattle.rows.specs.Rows.{shape, copies, bits}
-use Rattle.machine.specs.Machine.{Shared, put, stored, Meaning, meaning, jumps, Effect, halted, effect}
-use Rattle.machine.specs.Players.{Player, running, at, writesNow, nextRow, stepped}
+use Rattle.machine.specs.Machine.{Shared, put, Meaning, meaning, jumps, Effect, halted, effect}
+use Rattle.machine.specs.Players.{Player, at, writesNow, nextRow, stepped}
 use Rattle.machine.specs.Agreement.{Begins}
 use Rattle.simulation.specs.Static.{Lively}
 

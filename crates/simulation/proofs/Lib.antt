@@ -4,3 +4,5 @@ pub mod Blocks
 pub mod Whole
 pub mod Coded
 pub mod Calls
+pub mod Inside
+pub mod Example

@@ -1,27 +1,27 @@
 -- Blocks and registers together, over whole runs.
 use mathlib.Core.Path.{_≡_, refl, sym, ap, _∙_, subst}
-use mathlib.Core.Bool.{Bool, true, false, cond, _&&_, _||_, not}
-use mathlib.Core.List.{List, [], _∷_, _++_}
+use mathlib.Core.Bool.{Bool, true, false, cond, _&&_}
+use mathlib.Core.List.{List}
 use mathlib.Core.Logic.{_⊎_, inl, inr}
 use Prim.Native.Nat.{ℕ, zero, suc, _+_, _*_, _-_, _%_, _^_, _≤_, _<_}
 use native.Mathlib.Omega.{arith}
-use native.Mathlib.Nat.{mod-lt, mod-eq-of-lt, add-zero, zero-add, add-suc}
-use lib.Pow.{pow-pos, pow-mono}
-use lib.Dec.{eqb, ltb}
+use native.Mathlib.Nat.{zero-add}
+use lib.Pow.{pow-pos}
+use lib.Dec.{ltb}
 use lib.ListN.{length}
-use Rattle.std.proofs.shelf.Tests.{cases-bool, cases-lt, cases-eq, eqb-true, eqb-false, eq-eqb, ne-eqb, cond-both, cond-true, cond-false, and-parts, and-from, and-left, and-right, both-ways, true≢false, false≢true, lt-ltb, le-ltb}
+use Rattle.std.proofs.shelf.Tests.{cases-bool, cases-lt, cases-eq, and-parts, both-ways, false≢true, lt-ltb, le-ltb}
 use Rattle.rows.specs.declared.Row.{Row}
-use Rattle.rows.specs.Rows.{shape, copies, bits, Program}
+use Rattle.rows.specs.Rows.{copies, bits, Program}
 use Rattle.registers.specs.Model.{Model}
 use Rattle.compiling.specs.declared.Place.{Place}
 use Rattle.compiling.specs.Emit.{idle}
-use Rattle.machine.specs.Machine.{Shared, put, Effect, effect}
+use Rattle.machine.specs.Machine.{put}
 use Rattle.machine.specs.Players.{Player, at, writesNow, nextRow, stepped}
 use Rattle.machine.specs.Agreement.{Begins}
 use Rattle.simulation.specs.Static.{rowOf, classOf, Sound, Lively, Shares, Stands}
-use Rattle.simulation.proofs.Effects.{jumped-may, falls-may, is-copy, put-same, put-other, ran-outcome, stop-outcome, begins-same, begins-trans, grows, rests, copy-next, step-rests, step-row}
+use Rattle.simulation.proofs.Effects.{jumped-may, falls-may, put-same, put-other, begins-same, begins-trans, grows, rests, copy-next, step-rests, step-row}
 use Rattle.simulation.proofs.Carry.{Plays, Given, IsCode, Matched, kept, passed}
-use Rattle.simulation.proofs.Blocks.{Like, Fit, Goes, Carried, carried}
+use Rattle.simulation.proofs.Blocks.{Like, Goes, carried}
 
 -- n rows of the source player, one after another
 abbrev pub turns : (ℕ → Row) → Player → ℕ → Player
