@@ -1,0 +1,1 @@
+// A snapshot of the definitions; the proofs come with another branch.
