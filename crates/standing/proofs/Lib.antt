@@ -1,0 +1,9 @@
+pub mod Lines
+pub mod Parts
+pub mod Round
+pub mod Sources
+pub mod Slots
+pub mod Keeping
+pub mod Temporaries
+pub mod Sameness
+pub mod Reached
