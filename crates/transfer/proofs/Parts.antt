@@ -78,3 +78,6 @@ writes-below op h = (aim op h, falls op h)
 
     falls : (op : Op) → shape op .d ≡ true → shape op .falls ≡ true
     falls op h = grind arith
+
+pub writes-other : (r : Row) (v : ℕ) → (shape (r .op) .d ≡ true → v ≡ r .d → ⊥) → holds (writes r) v ≡ false
+writes-other r v h = elim (cases-bool (holds (writes r) v)) [ inl e ↦ (let (x, z) = write-which r v e in absurd (h x z)) | inr e ↦ e ]
