@@ -1,0 +1,6 @@
+pub mod Parts
+pub mod Blocks
+pub mod Inside
+pub mod Living
+pub mod Pairing
+pub mod Clashing
