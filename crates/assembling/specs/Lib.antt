@@ -1,0 +1,2 @@
+pub mod Assembling
+pub mod Rounds
