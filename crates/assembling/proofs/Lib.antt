@@ -1,3 +1,5 @@
 pub mod Lively
 pub mod Apart
 pub mod Rounds
+pub mod Whole
+pub mod First

@@ -1,2 +1,3 @@
 pub mod Assembling
 pub mod Rounds
+pub mod Whole
