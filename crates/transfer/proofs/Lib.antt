@@ -4,3 +4,4 @@ pub mod Inside
 pub mod Living
 pub mod Pairing
 pub mod Clashing
+pub mod Settling
