@@ -5,3 +5,4 @@ pub mod Living
 pub mod Pairing
 pub mod Clashing
 pub mod Settling
+pub mod Spilling

@@ -37,3 +37,7 @@ pub record GraphsAlike (w : Working) (x y : ℕ) : Type 0 where
 
 abbrev pub Edges-transfer : Type 0
 Edges-transfer = (w : Working) (start : ℕ → ℕ) → Standing w start → (x y : ℕ) → Unplaced w x → Unplaced w y → GraphsAlike w x y
+
+-- what a round spills are nodes of source variables that had no slot
+abbrev pub Rounds-spill : Type 0
+Rounds-spill = (m : Model) → Lawful m → (w : Working) (start : ℕ → ℕ) → Standing w start → ThreeClasses w → Spills w (roundOf m w)

@@ -2,7 +2,7 @@
 ghost use Rattle.transfer.specs.Inside.{Temporaries-inside};
 ghost use Rattle.transfer.specs.Paired.{Standing-in-order, Neighbours-couple, Temporaries-paired};
 ghost use Rattle.transfer.specs.Transfer.{Liveness-transfers, Hard-edges-transfer};
-ghost use Rattle.transfer.specs.Settling.{Classes-stay, Rounds-settle, Shared-nodes-quiet, Edges-transfer};
+ghost use Rattle.transfer.specs.Settling.{Classes-stay, Rounds-settle, Shared-nodes-quiet, Edges-transfer, Rounds-spill};
 
 // A temporary is live only inside its block.
 pub fn temporaries_live_inside_blocks() -> u8
@@ -70,6 +70,13 @@ pub fn rounds_settle() -> u8
 // Source variables without a slot that share a node have no hard edge in the source.
 pub fn shared_nodes_are_quiet() -> u8
     ensures { λ _. ⌜ Shared-nodes-quiet ⌝ }
+{
+    0
+}
+
+// A round spills nodes of source variables that had no slot, and nothing else.
+pub fn rounds_spill_source_nodes() -> u8
+    ensures { λ _. ⌜ Rounds-spill ⌝ }
 {
     0
 }
