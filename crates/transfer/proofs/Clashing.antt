@@ -13,7 +13,7 @@ use Rattle.rows.specs.Rows.{shape, copies, rowAt}
 use Rattle.compiling.specs.Working.{Working, spilled}
 use Rattle.simulation.specs.Static.{rowOf}
 use Rattle.interfering.specs.Living.{readAt, writtenAt, goesOn, livesBefore, livesAfter}
-use Rattle.interfering.specs.Edges.{Meets, copiesFrom, Clashes, Hard}
+use Rattle.interfering.specs.Edges.{Meets, copiesFrom, Clashes, Neighbours, Hard}
 use Rattle.interfering.proofs.Living.{writes-inside, after-only, after-each}
 use Rattle.standing.specs.Standing.{sourceRows, lineOf, Standing}
 use Rattle.transfer.specs.Inside.{BlockOf}
@@ -55,28 +55,43 @@ module _ (w : Working) (start : ℕ → ℕ) (st : Standing w start) where
               (out-of w start st (suc i) y l u (subst (λ (p : ℕ). livesBefore (w .rows) p y ≡ true) (e ∙ sym nx) lj))
         ]
 
-  clash-into : (i x y : ℕ) → Unplaced w x → Unplaced w y → Clashes (w .source .rows) i x y → (q : ℕ) × Clashes (w .rows) q x y
-  clash-into i x y ux uy ((wr, lv, ne), cp) =
+  meet-into : (i x y : ℕ) → Unplaced w x → Unplaced w y → Meets (w .source .rows) i x y →
+      (q : ℕ) × Meets (w .rows) q x y × (copiesFrom (w .source .rows) i y ≡ false → copiesFrom (w .rows) q y ≡ false)
+  meet-into i x y ux uy (wr, lv, ne) =
       let l : i < sourceRows w = writes-inside (w .source .rows) i x wr in
       elim (st .stands i l) [
         | inl g ↦ absurd (inner-writes w start st i g x ux wr)
-        | inr (n, f) ↦ (start i + n, ((core-writes w start st i n l f x ux wr .0, after-into i n l f y uy lv, ne), copies-into i n l f y uy cp))
+        | inr (n, f) ↦ (start i + n, (core-writes w start st i n l f x ux wr .0, after-into i n l f y uy lv, ne), copies-into i n l f y uy)
       ]
 
-  clash-back : (q x y : ℕ) → Unplaced w x → Unplaced w y → Clashes (w .rows) q x y → (i : ℕ) × Clashes (w .source .rows) i x y
-  clash-back q x y ux uy c =
-      let (i, n, l, lo, hi, f) = found w start st q (writes-inside (w .rows) q x (c .0 .0)) in
-      let (d, e) = write-which (lineOf w q) x (c .0 .0) in
+  meet-back : (q x y : ℕ) → Unplaced w x → Unplaced w y → Meets (w .rows) q x y →
+      (i : ℕ) × Meets (w .source .rows) i x y × (copiesFrom (w .rows) q y ≡ false → copiesFrom (w .source .rows) i y ≡ false)
+  meet-back q x y ux uy c =
+      let (i, n, l, lo, hi, f) = found w start st q (writes-inside (w .rows) q x (c .0)) in
+      let (d, e) = write-which (lineOf w q) x (c .0) in
       elim (kind w start st q i n f lo hi) [
         | inl (_, _, big) ↦ absurd (omega (arith, ux .0, e))
         | inr (inr (_, _, _, _, _, o, _)) ↦ absurd (true≢false (sym d ∙ rw o refl))
-        | inr (inl z) ↦ core i n l f (subst (λ (p : ℕ). Clashes (w .rows) p x y) z c)
+        | inr (inl z) ↦ core i n l f z (subst (λ (p : ℕ). Meets (w .rows) p x y) z c)
       ]
     where
-      core : (i n : ℕ) → i < sourceRows w → BlockOf w start i n → Clashes (w .rows) (start i + n) x y → (i : ℕ) × Clashes (w .source .rows) i x y
-      core i n l f ((wr, lv, ne), cp) =
+      core : (i n : ℕ) → i < sourceRows w → BlockOf w start i n → q ≡ start i + n → Meets (w .rows) (start i + n) x y →
+          (i : ℕ) × Meets (w .source .rows) i x y × (copiesFrom (w .rows) q y ≡ false → copiesFrom (w .source .rows) i y ≡ false)
+      core i n l f z (wr, lv, ne) =
           let (ws, nx) = core-writes-back w start st i n l f x ux wr in
-          (i, ((ws, after-back i n l f y uy nx (write-which (rowOf (w .source) i) x ws .0) lv, ne), copies-back i n l f y uy cp))
+          (i, (ws, after-back i n l f y uy nx (write-which (rowOf (w .source) i) x ws .0) lv, ne), λ cp. copies-back i n l f y uy (subst (λ (p : ℕ). copiesFrom (w .rows) p y ≡ false) z cp))
+
+  clash-into : (i x y : ℕ) → Unplaced w x → Unplaced w y → Clashes (w .source .rows) i x y → (q : ℕ) × Clashes (w .rows) q x y
+  clash-into i x y ux uy (mt, cp) = let (q, k, c) = meet-into i x y ux uy mt in (q, (k, c cp))
+
+  clash-back : (q x y : ℕ) → Unplaced w x → Unplaced w y → Clashes (w .rows) q x y → (i : ℕ) × Clashes (w .source .rows) i x y
+  clash-back q x y ux uy (mt, cp) = let (i, k, c) = meet-back q x y ux uy mt in (i, (k, c cp))
+
+  pub near-into : (x y : ℕ) → Unplaced w x → Unplaced w y → Neighbours (w .source .rows) x y → Neighbours (w .rows) x y
+  near-into x y ux uy h = elim (h .1) [ inl c ↦ (let (q, k, _) = meet-into (h .0) x y ux uy c in (q, inl k)) | inr c ↦ (let (q, k, _) = meet-into (h .0) y x uy ux c in (q, inr k)) ]
+
+  pub near-back : (x y : ℕ) → Unplaced w x → Unplaced w y → Neighbours (w .rows) x y → Neighbours (w .source .rows) x y
+  near-back x y ux uy h = elim (h .1) [ inl c ↦ (let (q, k, _) = meet-back (h .0) x y ux uy c in (q, inl k)) | inr c ↦ (let (q, k, _) = meet-back (h .0) y x uy ux c in (q, inr k)) ]
 
   pub hard-alike : (x y : ℕ) → Unplaced w x → Unplaced w y → HardAlike w x y
   hard-alike x y ux uy = record {

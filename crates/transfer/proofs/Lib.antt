@@ -4,3 +4,5 @@ pub mod Inside
 pub mod Living
 pub mod Pairing
 pub mod Clashing
+pub mod Settling
+pub mod Spilling

@@ -1,3 +1,4 @@
 pub mod Inside
 pub mod Paired
 pub mod Transfer
+pub mod Settling

@@ -2,6 +2,7 @@
 ghost use Rattle.transfer.specs.Inside.{Temporaries-inside};
 ghost use Rattle.transfer.specs.Paired.{Standing-in-order, Neighbours-couple, Temporaries-paired};
 ghost use Rattle.transfer.specs.Transfer.{Liveness-transfers, Hard-edges-transfer};
+ghost use Rattle.transfer.specs.Settling.{Classes-stay, Rounds-settle, Shared-nodes-quiet, Edges-transfer, Rounds-spill};
 
 // A temporary is live only inside its block.
 pub fn temporaries_live_inside_blocks() -> u8
@@ -41,6 +42,41 @@ pub fn liveness_transfers() -> u8
 // Source variables without a slot have a hard edge by a source row just if they have one by a working row.
 pub fn hard_edges_transfer() -> u8
     ensures { λ _. ⌜ Hard-edges-transfer ⌝ }
+{
+    0
+}
+
+// The graph of a working program has the edges of the source's first graph, between source variables without a slot.
+pub fn edges_transfer() -> u8
+    ensures { λ _. ⌜ Edges-transfer ⌝ }
+{
+    0
+}
+
+// Classes stay byte, half and word from round to round.
+pub fn classes_stay_three() -> u8
+    ensures { λ _. ⌜ Classes-stay ⌝ }
+{
+    0
+}
+
+// A round of a working program ends settled.
+pub fn rounds_settle() -> u8
+    ensures { λ _. ⌜ Rounds-settle ⌝ }
+{
+    0
+}
+
+// Source variables without a slot that share a node have no hard edge in the source.
+pub fn shared_nodes_are_quiet() -> u8
+    ensures { λ _. ⌜ Shared-nodes-quiet ⌝ }
+{
+    0
+}
+
+// A round spills nodes of source variables that had no slot, and nothing else.
+pub fn rounds_spill_source_nodes() -> u8
+    ensures { λ _. ⌜ Rounds-spill ⌝ }
 {
     0
 }
