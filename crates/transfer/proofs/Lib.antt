@@ -6,3 +6,4 @@ pub mod Pairing
 pub mod Clashing
 pub mod Settling
 pub mod Spilling
+pub mod Sharing

@@ -68,7 +68,7 @@ shared-nodes-quiet m w start st x y ux uy e h =
 
 -- ---- the graph of the source's first round
 
-open-place : (n v : ℕ) → getD (replicate n noPlace) v noPlace ≡ noPlace
+pub open-place : (n v : ℕ) → getD (replicate n noPlace) v noPlace ≡ noPlace
 open-place zero v = refl
 open-place (suc n) zero = refl
 open-place (suc n) (suc v) = open-place n v

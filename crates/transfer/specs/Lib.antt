@@ -2,3 +2,4 @@ pub mod Inside
 pub mod Paired
 pub mod Transfer
 pub mod Settling
+pub mod Sharing

@@ -3,6 +3,7 @@ ghost use Rattle.transfer.specs.Inside.{Temporaries-inside};
 ghost use Rattle.transfer.specs.Paired.{Standing-in-order, Neighbours-couple, Temporaries-paired};
 ghost use Rattle.transfer.specs.Transfer.{Liveness-transfers, Hard-edges-transfer};
 ghost use Rattle.transfer.specs.Settling.{Classes-stay, Rounds-settle, Shared-nodes-quiet, Edges-transfer, Rounds-spill};
+ghost use Rattle.transfer.specs.Sharing.{Sharing-harmless};
 
 // A temporary is live only inside its block.
 pub fn temporaries_live_inside_blocks() -> u8
@@ -77,6 +78,13 @@ pub fn shared_nodes_are_quiet() -> u8
 // A round spills nodes of source variables that had no slot, and nothing else.
 pub fn rounds_spill_source_nodes() -> u8
     ensures { λ _. ⌜ Rounds-spill ⌝ }
+{
+    0
+}
+
+// Variables share a slot only where they never disturb each other.
+pub fn slots_are_shared_harmlessly() -> u8
+    ensures { λ _. ⌜ Sharing-harmless ⌝ }
 {
     0
 }
