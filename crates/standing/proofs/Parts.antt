@@ -153,7 +153,7 @@ replaced-all s (r ∷ rows) = length-append (replaced s r) (flat (map (replaced 
 
 -- ---- a place of the rewritten program
 
-new-index : (x y : Bool) (n q : ℕ) → n ≤ q → q < n + (bit x + bit y) → ((x ≡ true) × (q ≡ n)) ⊎ ((y ≡ true) × (q ≡ n + bit x))
+pub new-index : (x y : Bool) (n q : ℕ) → n ≤ q → q < n + (bit x + bit y) → ((x ≡ true) × (q ≡ n)) ⊎ ((y ≡ true) × (q ≡ n + bit x))
 new-index true true n q lo hi = elim (cases-eq q n) [ inl e ↦ inl (refl, e) | inr e ↦ inr (refl, omega arith) ]
 new-index true false n q lo hi = inl (refl, omega arith)
 new-index false true n q lo hi = inr (refl, omega arith)

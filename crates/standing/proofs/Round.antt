@@ -21,7 +21,7 @@ use Rattle.compiling.specs.Spill.{Order, slotIn}
 use Rattle.compiling.specs.Rewrite.{classIn, inner}
 use Rattle.simulation.specs.Static.{rowOf, classOf, slotOf, Loads, Operand, Stored, Block, Inner}
 use Rattle.standing.specs.Standing.{bit, fetched, Filled}
-use Rattle.standing.proofs.Parts.{la, lb, sd, before, spread, names, spread-in, names-in, bit-true, bit-false, pos, tmp, made, landing, loadA, loadB, coreOf, storeD, pos-step, tmp-step, tmp-mono, landing-at, load-a, load-b, core-at, store-at}
+use Rattle.standing.proofs.Parts.{la, lb, sd, before, spread, names, spread-in, names-in, bit-true, bit-false, new-index, pos, tmp, made, landing, loadA, loadB, coreOf, storeD, pos-step, tmp-step, tmp-mono, landing-at, load-a, load-b, core-at, store-at}
 
 pub is-copy : (op : Op) → copies op ≡ true → op ≡ Copy
 is-copy op e = grind arith
@@ -34,12 +34,6 @@ pub record Fresh (p : Program) (places after : List Place) (s : Order) (classes 
   pub old : (v : ℕ) → has (s .out) v ≡ false → placeOf after v ≡ placeOf places v
   pub class : (v : ℕ) → v < p .vars → classIn classes v ≡ classOf p v
   pub low : p .vars ≤ length classes
-
-new-place : (x y : Bool) (n q : ℕ) → n ≤ q → q < n + (bit x + bit y) → ((x ≡ true) × (q ≡ n)) ⊎ ((y ≡ true) × (q ≡ n + bit x))
-new-place true true n q lo hi = elim (cases-eq q n) [ inl e ↦ inl (refl, e) | inr e ↦ inr (refl, omega arith) ]
-new-place true false n q lo hi = inl (refl, omega arith)
-new-place false true n q lo hi = inr (refl, omega arith)
-new-place false false n q lo hi = absurd (omega arith)
 
 bit-le : (t : Bool) → bit t ≤ 1
 bit-le true = omega arith
@@ -164,7 +158,7 @@ module _ (p : Program) (places after : List Place) (s : Order) (classes : List �
         at-store y = let e : suc (start' i + n′) ≡ suc (po c + before s r) = omega (arith, pos-c) in ap w' e ∙ store-at s classes rows c c-in ni y
 
         fresh-at : (q : ℕ) → n ≤ q → q < n′ → (w' (start' i + q) .op ≡ Load) × (w' (start' i + q) .d ≡ te c + (q - n))
-        fresh-at q lo hi = elim (new-place (la s r) (lb s r) n q lo hi) [
+        fresh-at q lo hi = elim (new-index (la s r) (lb s r) n q lo hi) [
             inl e ↦ (let z = at-a (e .0) in rw (e .1) (ap (λ z. z .op) z, ap (λ z. z .d) z ∙ omega arith))
           | inr e ↦ (let z = at-b (e .0) in rw (e .1) (ap (λ z. z .op) z, ap (λ z. z .d) z ∙ omega arith))
           ]

@@ -15,7 +15,7 @@ use Rattle.rounds.specs.Round.{Outcome}
 use Rattle.compiling.specs.declared.Place.{Place}
 use Rattle.compiling.specs.Working.{Working, admitted, spilled}
 use Rattle.compiling.specs.Blocks.{starts}
-use Rattle.compiling.specs.Spill.{spillOrder}
+use Rattle.compiling.specs.Spill.{spillOrder, placesSpilled}
 use Rattle.compiling.specs.Rewrite.{classIn, blocks, rewritten}
 use Rattle.simulation.specs.Static.{Sound, rowOf, classOf, slotOf, Block, Inner, Stands}
 
@@ -95,3 +95,32 @@ startsAfter w o q = sum (λ k. length (getD (blocks (spillOrder w o) (classIn (w
 -- a round that spills leaves each source row its block
 abbrev pub Rewritten-stands : Type 0
 Rewritten-stands = (w : Working) (start : ℕ → ℕ) (o : Outcome) → Standing w start → Spills w o → Standing (rewritten w o) (λ i. startsAfter w o (start i))
+
+-- two variables have one slot only if they had it before, or are in one node that the round spills
+abbrev pub Slot-of-node : Type 0
+Slot-of-node = (w : Working) (start : ℕ → ℕ) (o : Outcome) → Standing w start → Spills w o →
+    (u v : ℕ) → spilled (placesSpilled w o) u ≡ true → spilled (placesSpilled w o) v ≡ true → slotOf (placesSpilled w o) u ≡ slotOf (placesSpilled w o) v →
+    ((spilled (w .places) u ≡ true) × (spilled (w .places) v ≡ true) × (slotOf (w .places) u ≡ slotOf (w .places) v))
+    ⊎ ((has (o .spilled) (nodeAt (o .graph) u) ≡ true) × (nodeAt (o .graph) u ≡ nodeAt (o .graph) v))
+
+-- ---- bounds
+
+-- rows, variables and slots that a working program has at most
+pub record Bounded (w : Working) : Type 0 where
+  pub rows : length (w .rows) ≤ 4 * sourceRows w
+  pub most-rows : length (w .rows) ≤ 512
+  pub classes : length (w .classes) ≤ w .source .vars + 3 * sourceRows w
+  pub most-classes : length (w .classes) ≤ 448
+  pub slots : w .slots ≤ w .source .vars
+  pub most-slots : w .slots ≤ 64
+
+abbrev pub Standing-bounded : Type 0
+Standing-bounded = (w : Working) (start : ℕ → ℕ) → Standing w start → Bounded w
+
+-- every block starts at a row that there is, and so do jumps
+abbrev pub Jumps-inside : Type 0
+Jumps-inside = (w : Working) (start : ℕ → ℕ) → Standing w start → (q : ℕ) → shape (lineOf w q .op) .target ≡ true → lineOf w q .target < length (w .rows)
+
+-- each source row stands in the working rows
+abbrev pub Standing-stands : Type 0
+Standing-stands = (w : Working) (start : ℕ → ℕ) → Standing w start → (i : ℕ) → i < sourceRows w → Stands (w .source) (w .places) (lineOf w) start i
