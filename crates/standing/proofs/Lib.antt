@@ -4,3 +4,4 @@ pub mod Round
 pub mod Sources
 pub mod Slots
 pub mod Keeping
+pub mod Temporaries

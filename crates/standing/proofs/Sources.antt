@@ -153,7 +153,7 @@ admitted-stands p wf = first-stands p wf
 -- ---- where blocks start
 
 module _ (w : Working) (start : ℕ → ℕ) (st : Standing w start) where
-  filled-ends : (i n : ℕ) → Filled (w .source) (w .places) (lineOf w) start i n → (start i + n < start (suc i)) × (start (suc i) ≤ start i + 4)
+  pub filled-ends : (i n : ℕ) → Filled (w .source) (w .places) (lineOf w) start i n → (start i + n < start (suc i)) × (start (suc i) ≤ start i + 4)
   filled-ends i n f = elim (cases-bool (shape (rowOf (w .source) i .op) .d)) [
       inr e ↦ (omega (arith, f .ends e), omega (arith, f .ends e, f .block .few))
     | inl e ↦ elim (f .block .d e) [ inl x ↦ (omega (arith, x .2), omega (arith, x .2, f .block .few)) | inr x ↦ (omega (arith, x .2), omega (arith, x .2, f .block .few)) ]
