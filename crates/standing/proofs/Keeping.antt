@@ -292,6 +292,7 @@ module _ (w : Working) (start : ℕ → ℕ) (o : Outcome) (st : Standing w star
     places = places-length w start o st sp;
     classes = omega (arith, parts.classes-length s classes rows, ap tmp (st .long), spares (sourceRows w) (omega arith), st .classes);
     class = λ v h. parts.class-old s classes rows v (omega (arith, vars-low)) ∙ st .class v h;
+    small = parts.class-small s classes rows (st .small);
     slots = slots-count w start o st sp;
     slot = slot-below w start o st sp;
     named-a = λ q x. let (p, h, ni, k) = in-line (λ op. shape op .a) q refl x in name-a q p h ni x k .0;

@@ -5,3 +5,4 @@ pub mod Sources
 pub mod Slots
 pub mod Keeping
 pub mod Temporaries
+pub mod Sameness

@@ -340,6 +340,20 @@ module _ (s : Order) (classes : List ℕ) (rows : List Row) where
   pub class-old : (v : ℕ) → v < length classes → classIn classesAfter v ≡ classIn classes v
   class-old v h = getD-append-left classes (map (classIn classes) (allReplaced s rows)) 0 v h
 
+  pub class-small : ((v : ℕ) → classIn classes v ≤ 2) → (v : ℕ) → classIn classesAfter v ≤ 2
+  class-small h v = elim (cases-lt v (length classes)) [
+      inl l ↦ rw (class-old v l) (h v)
+    | inr l ↦
+        (let new : List ℕ = allReplaced s rows in
+        let j : ℕ = v - length classes in
+        let e : v ≡ length classes + j = omega arith in
+        let at : classIn classesAfter v ≡ getD (map (classIn classes) new) j 0 = ap (λ (k : ℕ). classIn classesAfter k) e ∙ getD-append-add classes (map (classIn classes) new) j 0 in
+        elim (cases-lt j (length new)) [
+          inl k ↦ omega (arith, at, getD-map (classIn classes) new j 0 0 k, h (getD new j 0))
+        | inr k ↦ omega (arith, at, getD-past (map (classIn classes) new) j 0 (omega (arith, length-map new (classIn classes))))
+        ])
+    ]
+
   class-new : (p k : ℕ) → p < length rows → k < names s (row p) → classIn classesAfter (tmp p + k) ≡ classIn classes (getD (replaced s (row p)) k 0)
   unfolding allReplaced sum
   class-new p k h l =

@@ -132,6 +132,7 @@ module _ (p : Program) (wf : WellFormed p) where
     places = length-replicate (p .vars) noPlace;
     classes = omega (arith, wf .each, spare-none (length (p .rows)));
     class = λ v h. refl;
+    small = λ v. elim (cases-lt v (p .vars)) [ inl h ↦ wf .classes v h | inr h ↦ omega (arith, getD-past (p .classes) v 0 (omega (arith, wf .each))) ];
     slots = omega arith;
     slot = λ v y. absurd (both-ways _ (none-spilled v) y);
     named-a = λ q y. inl (sound .var-a q y, none-spilled _);

@@ -59,23 +59,23 @@ backward rows P c = record {
 }
 
 module _ (w : Working) (start : ℕ → ℕ) (st : Standing w start) where
-  abbrev src : Program
+  abbrev pub src : Program
   src = w .source
 
-  abbrev line : ℕ → Row
+  abbrev pub line : ℕ → Row
   line q = lineOf w q
 
-  abbrev Fill : ℕ → ℕ → Type 0
+  abbrev pub Fill : ℕ → ℕ → Type 0
   Fill i n = Filled (w .source) (w .places) (lineOf w) start i n
 
-  ends : (i n : ℕ) → Fill i n → start i + n < start (suc i)
+  pub ends : (i n : ℕ) → Fill i n → start i + n < start (suc i)
   ends i n f = filled-ends w start st i n f .0
 
-  up : (i j : ℕ) → i ≤ j → j ≤ sourceRows w → start i ≤ start j
+  pub up : (i j : ℕ) → i ≤ j → j ≤ sourceRows w → start i ≤ start j
   up i j h k = rises w start st i (j - i) j (omega arith) k
 
   -- the block of a place
-  one-block : (q i j : ℕ) → i < sourceRows w → j < sourceRows w → start i ≤ q → q < start (suc i) → start j ≤ q → q < start (suc j) → i ≡ j
+  pub one-block : (q i j : ℕ) → i < sourceRows w → j < sourceRows w → start i ≤ q → q < start (suc i) → start j ≤ q → q < start (suc j) → i ≡ j
   one-block q i j hi hj a b c d = elim (cases-order i j) [
       inl e ↦ e
     | inr (inl e) ↦ absurd (omega (arith, up (suc i) j e (omega arith)))
@@ -87,7 +87,7 @@ module _ (w : Working) (start : ℕ → ℕ) (st : Standing w start) where
   search-block (suc k) q l h = elim (cases-lt q (start k)) [ inl e ↦ search-block k q (omega arith) e | inr e ↦ (k, l, e, h) ]
 
   -- what stands at a place: a load, the row, or its store
-  abbrev Kinds : ℕ → Type 0
+  abbrev pub Kinds : ℕ → Type 0
   Kinds q = (i : ℕ) × (i < sourceRows w) × (n : ℕ) × Fill i n × (start i ≤ q) ×
       (((line q .op ≡ Load) × (q < start i + n)) ⊎ ((q ≡ start i + n) ⊎ ((q ≡ suc (start i + n)) × (q < start (suc i)) × (shape (rowOf src i .op) .d ≡ true) × (line q .op ≡ Store) × (line q .a ≡ line (start i + n) .d))))
 
@@ -113,10 +113,10 @@ module _ (w : Working) (start : ℕ → ℕ) (st : Standing w start) where
   kind : (q : ℕ) → q < length (w .rows) → Kinds q
   kind q h = let (i, l, a, b) = search-block (sourceRows w) q (omega arith) (omega (arith, st .long)) in kinds q i l a b
 
-  kind-if : (t : Op → Bool) (q : ℕ) → t End ≡ false → t (line q .op) ≡ true → Kinds q
+  pub kind-if : (t : Op → Bool) (q : ℕ) → t End ≡ false → t (line q .op) ≡ true → Kinds q
   kind-if t q e x = kind q (present t (w .rows) q e x)
 
-  so : Sound src
+  pub so : Sound src
   so = sound src (st .wellFormed)
 
   abbrev P : ℕ → ℕ → Type 0

@@ -56,3 +56,14 @@ One-partner = (w : Working) (start : ℕ → ℕ) → Standing w start → (t x 
 abbrev pub Source-lives-on : Type 0
 Source-lives-on = (w : Working) (start : ℕ → ℕ) → Standing w start → (live : ℕ → ℕ → Bool) → Lively (lineOf w) live →
     Backward (w .source .rows) (λ i v. v < w .source .vars → spilled (w .places) v ≡ false → live (start i) v ≡ true)
+
+-- what is live before place q comes to be live in the source: before the row of a block, and behind it
+pub record Comes (w : Working) (start : ℕ → ℕ) (live : ℕ → ℕ → Bool) (q v : ℕ) : Type 0 where
+  pub first : (i : ℕ) → i < sourceRows w → start i ≡ q → live i v ≡ true
+  pub inside : (i n : ℕ) → i < sourceRows w → Filled (w .source) (w .places) (lineOf w) start i n → start i < q → q ≤ start i + n → live i v ≡ true
+  pub behind : (i n : ℕ) → i < sourceRows w → Filled (w .source) (w .places) (lineOf w) start i n → q ≡ suc (start i + n) → q < start (suc i) → live (suc i) v ≡ true
+
+-- what is live in the working rows is live in the source, where it is a source variable and not spilled
+abbrev pub Source-lived : Type 0
+Source-lived = (w : Working) (start : ℕ → ℕ) → Standing w start → (live : ℕ → ℕ → Bool) → Lively (rowOf (w .source)) live →
+    Backward (w .rows) (λ q v. v < w .source .vars → spilled (w .places) v ≡ false → Comes w start live q v)

@@ -58,6 +58,7 @@ pub record Standing (w : Working) (start : ℕ → ℕ) : Type 0 where
   pub places : length (w .places) ≡ w .source .vars
   pub classes : length (w .classes) ≡ w .source .vars + sum (spare start) (sourceRows w)
   pub class : (v : ℕ) → v < w .source .vars → classIn (w .classes) v ≡ classOf (w .source) v
+  pub small : (v : ℕ) → classIn (w .classes) v ≤ 2
   pub slots : w .slots ≤ count (spilled (w .places)) (w .source .vars)
   pub slot : (v : ℕ) → spilled (w .places) v ≡ true → slotOf (w .places) v < w .slots
   -- of every row: what it names, the classes it says, and where it goes on
