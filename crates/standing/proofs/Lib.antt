@@ -6,3 +6,4 @@ pub mod Slots
 pub mod Keeping
 pub mod Temporaries
 pub mod Sameness
+pub mod Reached

@@ -1,5 +1,6 @@
 ghost use Rattle.standing.specs.Standing.{Well-formed-sound, Admitted-stands, Rewritten-stands, Slot-of-node, Standing-stands, Standing-bounded, Jumps-inside};
 ghost use Rattle.standing.specs.Lasting.{Temporaries-inside, One-partner, Source-lives-on, Source-lived};
+ghost use Rattle.standing.specs.Reaching.{Later-stands, Rounds-end};
 
 // The rows of a well-formed program are sound.
 pub fn well_formed_rows_are_sound() -> u8
@@ -74,6 +75,20 @@ pub fn source_variables_live_on() -> u8
 // What is live in the working rows is live in the source, where it is not spilled.
 pub fn source_variables_lived() -> u8
     ensures { λ _. ⌜ Source-lived ⌝ }
+{
+    0
+}
+
+// After rounds that spill only what they may, source rows stand.
+pub fn rounds_keep_rows_standing() -> u8
+    ensures { λ _. ⌜ Later-stands ⌝ }
+{
+    0
+}
+
+// Rounds end in one that colours, of whose working program the code is made, or all spill.
+pub fn rounds_end() -> u8
+    ensures { λ _. ⌜ Rounds-end ⌝ }
 {
     0
 }
