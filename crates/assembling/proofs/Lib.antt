@@ -2,4 +2,3 @@ pub mod Lively
 pub mod Apart
 pub mod Rounds
 pub mod Whole
-pub mod First

@@ -1,19 +1,12 @@
 -- The static record of a compiled program.
-use mathlib.Core.Path.{_≡_, refl, sym, ap, subst, _∙_}
-use mathlib.Core.Bool.{Bool, true, false, cond}
-use mathlib.Core.Logic.{_⊎_, inl, inr}
-use mathlib.Core.List.{List, [], _∷_, map}
-use Prim.Native.Nat.{ℕ, zero, suc, _+_, _-_, _<_, _≤_}
+use mathlib.Core.Path.{_≡_, sym, subst}
+use mathlib.Core.Bool.{true, false}
+use mathlib.Core.Logic.{inl}
+use mathlib.Core.List.{List}
+use Prim.Native.Nat.{ℕ, suc}
 use native.Mathlib.Omega.{arith}
-use lib.Dec.{eqb, ltb}
-use lib.ListN.{length, getD}
 use Rattle.std.specs.declared.result.Result.the-variants.{Ok}
-use Rattle.std.proofs.shelf.Tests.{cases-lt, both-ways, eqb-true, cond-true}
-use Rattle.rows.specs.declared.Op.{Op}
-use Rattle.rows.specs.declared.Op.the-variants.{End, Const, Copy, Add, Sub, And, Xor, Widen, Narrow, Input, Output, Jump, Less, Load, Store}
-use Rattle.rows.specs.declared.Row.{Row}
-use Rattle.rows.specs.Rows.{shape, copies, fits, opcode, endRow, rowAt, Program}
-use Rattle.packing.specs.Inverse.{WellRow, WellFormed}
+use Rattle.rows.specs.Rows.{rowAt, Program}
 use Rattle.packing.proofs.Back.{reads-well}
 use Rattle.admission.specs.Admission.{admitting}
 use Rattle.registers.specs.Model.{Model, Lawful}
@@ -23,10 +16,10 @@ use Rattle.compiling.specs.Emit.{registersOf, emitted}
 use Rattle.compiling.specs.Compile.{compiling}
 use Rattle.interfering.specs.Living.{livesBefore}
 use Rattle.interfering.proofs.Starting.{admitted-read}
-use Rattle.merging.proofs.Rounds.{copy-is}
-use Rattle.simulation.specs.Static.{Sound, Lively, Static, rowOf, classOf}
-use Rattle.simulation.proofs.Inside.{past, inside, emitted-rows}
+use Rattle.simulation.specs.Static.{Sound, Lively, Static, rowOf}
+use Rattle.simulation.proofs.Inside.{emitted-rows}
 use Rattle.simulation.proofs.Calls.{static-agrees}
+use Rattle.standing.proofs.Sources.{well-formed-sound}
 use Rattle.assembling.specs.Assembling.{InOrder, registerIn}
 use Rattle.assembling.specs.Rounds.{turn, Ends, Reached}
 use Rattle.assembling.specs.Whole.{Admitted-sound, Standing, Upright, Static-met, Compiled-agrees}
@@ -36,69 +29,8 @@ use Rattle.assembling.proofs.Rounds.{few-rounds, emitted-rounds}
 
 -- ---- an admitted program is sound
 
--- the opcodes of a source file use no slot
-slotless : (o : Op) → opcode o ≤ 12 → shape o .slot ≡ false
-slotless Load l = absurd (omega arith)
-slotless Store l = absurd (omega arith)
-slotless End l = refl
-slotless Const l = refl
-slotless Copy l = refl
-slotless Add l = refl
-slotless Sub l = refl
-slotless And l = refl
-slotless Xor l = refl
-slotless Widen l = refl
-slotless Narrow l = refl
-slotless Input l = refl
-slotless Output l = refl
-slotless Jump l = refl
-slotless Less l = refl
-
-copy-writes : (o : Op) → copies o ≡ true → shape o .d ≡ true
-copy-writes o h = ap (λ (x : Op). shape x .d) (copy-is o h)
-
-module _ (p : Program) (well : WellFormed p) where
-  row-well : (i : ℕ) → i < length (p .rows) → WellRow (p .vars) (length (p .rows)) (λ k. getD (p .classes) k 0) (rowOf p i)
-  row-well i l = well .rows i l
-
-  class-of-d : (i : ℕ) → shape (rowOf p i .op) .d ≡ true → rowOf p i .dclass ≡ classOf p (rowOf p i .d)
-  class-of-d i h = row-well i (inside (λ o. shape o .d) refl (p .rows) i h) .dclass ∙ cond-true _ _ _ h
-
-  class-of-a : (i : ℕ) → copies (rowOf p i .op) ≡ true → classOf p (rowOf p i .a) ≡ rowOf p i .dclass
-  class-of-a i h =
-      let r = rowOf p i in
-      let suits = row-well i (inside copies refl (p .rows) i h) .suits in
-      let same : classOf p (r .d) ≡ classOf p (r .a) = eqb-true _ _ (subst (λ (o : Op). fits o (classOf p (r .d)) (classOf p (r .a)) (classOf p (r .b)) ≡ true) (copy-is (r .op) h) suits) in
-      sym (class-of-d i (copy-writes (r .op) h) ∙ same)
-
-  falls-on : (i : ℕ) → i < length (p .rows) → shape (rowOf p i .op) .falls ≡ true → suc i < length (p .rows)
-  falls-on i l h = elim (cases-lt (suc i) (length (p .rows))) [
-    | inl k ↦ k
-    | inr k ↦ (let e : length (p .rows) - 1 ≡ i = omega arith in absurd (both-ways _ (subst (λ (n : ℕ). shape (rowOf p n .op) .falls ≡ false) e (well .last)) h))
-  ]
-
-  no-slot : (i : ℕ) → shape (rowOf p i .op) .slot ≡ false
-  no-slot i = elim (cases-lt i (length (p .rows))) [
-    | inl l ↦ slotless (rowOf p i .op) (row-well i l .source)
-    | inr l ↦ ap (λ (r : Row). shape (r .op) .slot) (past (p .rows) i l)
-  ]
-
-  pub well-sound : Sound p
-  well-sound = record {
-    some = well .some;
-    most = well .most;
-    below = falls-on;
-    target = λ i l h. row-well i l .target .within h;
-    var-a = λ i h. row-well i (inside (λ o. shape o .a) refl (p .rows) i h) .a .within h;
-    var-b = λ i h. row-well i (inside (λ o. shape o .b) refl (p .rows) i h) .b .within h;
-    var-d = λ i h. row-well i (inside (λ o. shape o .d) refl (p .rows) i h) .d .within h;
-    class-d = class-of-d;
-    class-a = class-of-a;
-    plain = no-slot;
-  }
-
 pub admitted-sound : Admitted-sound
-admitted-sound bs p h = well-sound p (reads-well bs p (admitted-read bs p h))
+admitted-sound bs p h = well-formed-sound p (reads-well bs p (admitted-read bs p h))
 
 -- ---- the record
 

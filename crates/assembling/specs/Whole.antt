@@ -8,7 +8,7 @@ use Rattle.std.specs.declared.result.Result.the-variants.{Ok}
 use Rattle.rows.specs.Rows.{shape, rowAt, Program}
 use Rattle.admission.specs.Admission.{admitting}
 use Rattle.registers.specs.Model.{Model, Lawful}
-use Rattle.compiling.specs.Working.{Working, admitted}
+use Rattle.compiling.specs.Working.{Working}
 use Rattle.compiling.specs.Compile.{compiling}
 use Rattle.machine.specs.Agreement.{Agreeing}
 use Rattle.interfering.specs.Living.{livesBefore}
@@ -40,7 +40,3 @@ Static-met = (files : ℕ → Model) → ((i : ℕ) → Lawful (files i)) → (b
 -- and agrees with its source in every rehearsal
 abbrev pub Compiled-agrees : Type 0
 Compiled-agrees = (files : ℕ → Model) → ((i : ℕ) → Lawful (files i)) → (bs : List ℕ) (p : Program) → admitting bs ≡ Ok p → Upright files p → Agreeing (compiling files p) (files (compiling files p .rounds))
-
--- before the first round an admitted program is so
-abbrev pub First-upright : Type 0
-First-upright = (m : Model) → Lawful m → (bs : List ℕ) (p : Program) → admitting bs ≡ Ok p → InOrder m (admitted p) × Standing (admitted p)

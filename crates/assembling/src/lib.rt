@@ -1,7 +1,7 @@
 // What a compiled program has for its static record from the rounds.
 ghost use Rattle.assembling.specs.Assembling.{Live-lively, Admitted-lively, Registers-apart};
 ghost use Rattle.assembling.specs.Rounds.{Few-rounds};
-ghost use Rattle.assembling.specs.Whole.{Admitted-sound, Static-met, Compiled-agrees, First-upright};
+ghost use Rattle.assembling.specs.Whole.{Admitted-sound, Static-met, Compiled-agrees};
 
 // What is called live before each row is closed over the rows.
 pub fn live_lively() -> u8
@@ -48,13 +48,6 @@ pub fn static_met() -> u8
 // So it agrees with its source.
 pub fn compiled_agrees() -> u8
     ensures { λ _. ⌜ Compiled-agrees ⌝ }
-{
-    0
-}
-
-// Before its first round a program is so.
-pub fn first_upright() -> u8
-    ensures { λ _. ⌜ First-upright ⌝ }
 {
     0
 }

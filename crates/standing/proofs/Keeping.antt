@@ -90,16 +90,18 @@ module _ (w : Working) (start : ℕ → ℕ) (o : Outcome) (st : Standing w star
 
   again : (i : ℕ) → i < sourceRows w → Again i
   again i h = elim (st .stands i h) [
-      inl g ↦
-        (inl (record {
-          copy = g .copy;
-          d = stays-out (w .source) (w .places) after s classes fr _ (g .d);
-          a = stays-out (w .source) (w .places) after s classes fr _ (g .a);
-          same = slot-stays (w .source) (w .places) after s classes fr _ (g .d) ∙ g .same ∙ sym (slot-stays (w .source) (w .places) after s classes fr _ (g .a));
-          next = ap pos (g .next);
-        }), omega (arith, g .next, ap pos (g .next), ap tmp (g .next)))
+    | inl g ↦ (
+      inl (record {
+        copy = g .copy;
+        d = stays-out (w .source) (w .places) after s classes fr _ (g .d);
+        a = stays-out (w .source) (w .places) after s classes fr _ (g .a);
+        same = slot-stays (w .source) (w .places) after s classes fr _ (g .d) ∙ g .same ∙ sym (slot-stays (w .source) (w .places) after s classes fr _ (g .a));
+        next = ap pos (g .next);
+      }),
+      omega (arith, g .next, ap pos (g .next), ap tmp (g .next)),
+    )
     | inr b ↦ filled i h (b .0) (b .1)
-    ]
+  ]
     where
       filled : (i : ℕ) → i < sourceRows w → (n : ℕ) → Filled (w .source) (w .places) (lineOf w) start i n → Again i
       filled i h n f =
@@ -107,14 +109,15 @@ module _ (w : Working) (start : ℕ → ℕ) (o : Outcome) (st : Standing w star
           let tg : shape (rowOf (w .source) i .op) .target ≡ true → start (rowOf (w .source) i .target) < length rows = λ y. starts-inside w start st _ (so .target i h y) in
           let hi = high w start st i h in
           elim (cases-bool (inner s (row (start i + n)))) [
-            inl y ↦
-              (let g = gone′ (w .source) (w .places) after s classes fr rows start i n f older tg hi y in
-              (inl (g .0), omega (arith, g .1 .0, g .1 .1, g .0 .next)))
-          | inr y ↦
-              (let g = grows (w .source) (w .places) after s classes fr rows start i n f older tg hi y in
-              let up = ends-above (w .source) (w .places) after s classes fr rows start i n f older tg hi in
-              (inr (n′ (w .source) (w .places) after s classes fr rows start i n f older tg hi, filled′ (w .source) (w .places) after s classes fr rows start i n f older tg hi y (so .var-a i) (so .var-b i)),
-               omega (arith, g, up, parts.tmp-mono s classes rows (start i) (start (suc i)) (omega arith))))
+            | inl y ↦
+                (let g = gone′ (w .source) (w .places) after s classes fr rows start i n f older tg hi y in
+                (inl (g .0), omega (arith, g .1 .0, g .1 .1, g .0 .next)))
+            | inr y ↦
+                (let g = grows (w .source) (w .places) after s classes fr rows start i n f older tg hi y in
+                let up = ends-above (w .source) (w .places) after s classes fr rows start i n f older tg hi in (
+                  inr (n′ (w .source) (w .places) after s classes fr rows start i n f older tg hi, filled′ (w .source) (w .places) after s classes fr rows start i n f older tg hi y (so .var-a i) (so .var-b i)),
+                  omega (arith, g, up, parts.tmp-mono s classes rows (start i) (start (suc i)) (omega arith)),
+                ))
           ]
 
   spares : (k : ℕ) → k ≤ sourceRows w → tmp (start k) + sum (spare start) k ≡ length classes + sum (spare start') k
@@ -158,13 +161,13 @@ module _ (w : Working) (start : ℕ → ℕ) (o : Outcome) (st : Standing w star
     name-a x (inr (inr (inl (_, e)))) =
         let y : shape (row p .op) .a ≡ true = sym (ap (λ r. shape (r .op) .a) e) ∙ x in
         elim (cases-bool (la s (row p))) [
-          inl t ↦
-            (let z : made q .a ≡ tmp p = ap (λ r. r .a) e ∙ cond-true _ _ _ t in
-            (new-name p 0 (made q .a) h (omega (arith, nm, bit-true _ t)) (omega (arith, z)), ap (λ r. r .aclass) e ∙ st .class-a p y ∙ sym (ap (classIn classesAfter) z ∙ parts.class-a s classes rows p h ni t)))
-        | inr t ↦
-            (let z : made q .a ≡ row p .a = ap (λ r. r .a) e ∙ cond-false _ _ _ t in
-            let old = st .named-a p y in
-            (subst Named′ (sym z) (old-name (row p .a) old (and-rest _ _ y t)), ap (λ r. r .aclass) e ∙ st .class-a p y ∙ sym (ap (classIn classesAfter) z ∙ old-class (row p .a) old)))
+          | inl t ↦
+              (let z : made q .a ≡ tmp p = ap (λ r. r .a) e ∙ cond-true _ _ _ t in
+              (new-name p 0 (made q .a) h (omega (arith, nm, bit-true _ t)) (omega (arith, z)), ap (λ r. r .aclass) e ∙ st .class-a p y ∙ sym (ap (classIn classesAfter) z ∙ parts.class-a s classes rows p h ni t)))
+          | inr t ↦
+              (let z : made q .a ≡ row p .a = ap (λ r. r .a) e ∙ cond-false _ _ _ t in
+              let old = st .named-a p y in
+              (subst Named′ (sym z) (old-name (row p .a) old (and-rest _ _ y t)), ap (λ r. r .aclass) e ∙ st .class-a p y ∙ sym (ap (classIn classesAfter) z ∙ old-class (row p .a) old)))
         ]
     name-a x (inr (inr (inr (t, _, e)))) =
         let z : made q .a ≡ tmp p + before s (row p) = ap (λ r. r .a) e in
@@ -176,8 +179,8 @@ module _ (w : Working) (start : ℕ → ℕ) (o : Outcome) (st : Standing w star
     name-b x (inr (inr (inl (_, e)))) =
         let y : shape (row p .op) .b ≡ true = sym (ap (λ r. shape (r .op) .b) e) ∙ x in
         elim (cases-bool (lb s (row p))) [
-          inl t ↦ new-name p (bit (la s (row p))) (made q .b) h (omega (arith, nm, bit-true _ t)) (ap (λ r. r .b) e ∙ cond-true _ _ _ t)
-        | inr t ↦ subst Named′ (sym (ap (λ r. r .b) e ∙ cond-false _ _ _ t)) (old-name (row p .b) (st .named-b p y) (and-rest _ _ y t))
+          | inl t ↦ new-name p (bit (la s (row p))) (made q .b) h (omega (arith, nm, bit-true _ t)) (ap (λ r. r .b) e ∙ cond-true _ _ _ t)
+          | inr t ↦ subst Named′ (sym (ap (λ r. r .b) e ∙ cond-false _ _ _ t)) (old-name (row p .b) (st .named-b p y) (and-rest _ _ y t))
         ]
     name-b x (inr (inr (inr (_, _, e)))) = absurd (true≢false (sym x ∙ ap (λ r. shape (r .op) .b) e))
 
@@ -189,12 +192,12 @@ module _ (w : Working) (start : ℕ → ℕ) (o : Outcome) (st : Standing w star
     wrote x (inr (inr (inl (at, e)))) =
         let y : shape (row p .op) .d ≡ true = sym (ap (λ r. shape (r .op) .d) e) ∙ x in
         elim (cases-bool (sd s (row p))) [
-          inl t ↦
-            (let z : made q .d ≡ tmp p + before s (row p) = ap (λ r. r .d) e ∙ cond-true _ _ _ t in
-            (inl (before s (row p), omega (arith, nm, bit-true _ t), at, z), ap (λ r. r .dclass) e ∙ st .class-d p y ∙ sym (ap (classIn classesAfter) z ∙ parts.class-d s classes rows p h ni t)))
-        | inr t ↦
-            (let z : made q .d ≡ row p .d = ap (λ r. r .d) e ∙ cond-false _ _ _ t in
-            (inr (y, at, z, and-rest _ _ y t), ap (λ r. r .dclass) e ∙ st .class-d p y ∙ sym (ap (classIn classesAfter) z ∙ old-class (row p .d) (st .named-d p y))))
+          | inl t ↦
+              (let z : made q .d ≡ tmp p + before s (row p) = ap (λ r. r .d) e ∙ cond-true _ _ _ t in
+              (inl (before s (row p), omega (arith, nm, bit-true _ t), at, z), ap (λ r. r .dclass) e ∙ st .class-d p y ∙ sym (ap (classIn classesAfter) z ∙ parts.class-d s classes rows p h ni t)))
+          | inr t ↦
+              (let z : made q .d ≡ row p .d = ap (λ r. r .d) e ∙ cond-false _ _ _ t in
+              (inr (y, at, z, and-rest _ _ y t), ap (λ r. r .dclass) e ∙ st .class-d p y ∙ sym (ap (classIn classesAfter) z ∙ old-class (row p .d) (st .named-d p y))))
         ]
     wrote x (inr (inr (inr (_, _, e)))) = absurd (true≢false (sym x ∙ ap (λ r. shape (r .op) .d) e))
 
@@ -242,41 +245,41 @@ module _ (w : Working) (start : ℕ → ℕ) (o : Outcome) (st : Standing w star
   old-written t q lo h x e =
       let n : has (s .out) (row q .d) ≡ false = not-now (w .source) (w .places) after s classes fr (row q .d) (omega arith) in
       let ni : inner s (row q) ≡ false = elim (cases-bool (inner s (row q))) [
-          inr y ↦ y
+        | inr y ↦ y
         | inl y ↦ absurd (both-ways _ n (and-parts (has (s .out) (row q .d)) _ (and-parts (has (s .out) (row q .d) && has (s .out) (row q .a)) _ (and-parts (copies (row q .op)) _ y .1) .0) .0))
-        ] in
+      ] in
       let c = parts.core-at s classes rows q h ni in
       (pos q + before s (row q), there q (before s (row q)) h (omega (arith, spread-in s (row q) ni)), ap (λ r. shape (r .op) .d) c ∙ x, ap (λ r. r .d) c ∙ cond-false _ _ _ (and-right _ _ n) ∙ e)
 
   new-written : (t p : ℕ) → p < length rows → tmp p ≤ t → t < tmp p + names s (row p) → Written t
   new-written t p h lo hi = elim (cases-bool (inner s (row p))) [
-      inl y ↦ (let none : names s (row p) ≡ 0 = cond-true _ _ _ y in absurd (omega arith))
+    | inl y ↦ (let none : names s (row p) ≡ 0 = cond-true _ _ _ y in absurd (omega arith))
     | inr y ↦ elim (cases-lt t (tmp p + before s (row p))) [
-        inl e ↦ elim (new-index (la s (row p)) (lb s (row p)) (tmp p) t lo e) [
-            inl x ↦
-              (let c = parts.load-a s classes rows p h y (x .0) in let z : pos p + 0 ≡ pos p = omega arith in
-              (pos p, rw z at (there p 0 h (omega (arith, spread-in s (row p) y))), ap (λ r. shape (r .op) .d) c, ap (λ r. r .d) c ∙ sym (x .1)))
-          | inr x ↦
-              (let c = parts.load-b s classes rows p h y (x .0) in
-              (pos p + bit (la s (row p)), there p (bit (la s (row p))) h (omega (arith, spread-in s (row p) y)), ap (λ r. shape (r .op) .d) c, ap (λ r. r .d) c ∙ sym (x .1)))
-          ]
+      | inl e ↦ elim (new-index (la s (row p)) (lb s (row p)) (tmp p) t lo e) [
+        | inl x ↦
+            (let c = parts.load-a s classes rows p h y (x .0) in let z : pos p + 0 ≡ pos p = omega arith in
+            (pos p, rw z at (there p 0 h (omega (arith, spread-in s (row p) y))), ap (λ r. shape (r .op) .d) c, ap (λ r. r .d) c ∙ sym (x .1)))
+        | inr x ↦
+            (let c = parts.load-b s classes rows p h y (x .0) in
+            (pos p + bit (la s (row p)), there p (bit (la s (row p))) h (omega (arith, spread-in s (row p) y)), ap (λ r. shape (r .op) .d) c, ap (λ r. r .d) c ∙ sym (x .1)))
+      ]
       | inr e ↦ elim (cases-bool (sd s (row p))) [
-            inl x ↦
-              (let c = parts.core-at s classes rows p h y in
-              let z : tmp p + before s (row p) ≡ t = omega (arith, names-in s (row p) y, bit-true _ x) in
-              (pos p + before s (row p), there p (before s (row p)) h (omega (arith, spread-in s (row p) y)), ap (λ r. shape (r .op) .d) c ∙ and-parts (shape (row p .op) .d) _ x .0, ap (λ r. r .d) c ∙ cond-true _ _ _ x ∙ z))
-          | inr x ↦ absurd (omega (arith, names-in s (row p) y, bit-false _ x))
-          ]
+        | inl x ↦
+            (let c = parts.core-at s classes rows p h y in
+            let z : tmp p + before s (row p) ≡ t = omega (arith, names-in s (row p) y, bit-true _ x) in
+            (pos p + before s (row p), there p (before s (row p)) h (omega (arith, spread-in s (row p) y)), ap (λ r. shape (r .op) .d) c ∙ and-parts (shape (row p .op) .d) _ x .0, ap (λ r. r .d) c ∙ cond-true _ _ _ x ∙ z))
+        | inr x ↦ absurd (omega (arith, names-in s (row p) y, bit-false _ x))
       ]
     ]
+  ]
 
   some-place : (t : ℕ) → vars ≤ t → t < length classesAfter → Written t
   some-place t lo hi = elim (cases-lt t (length classes)) [
-      inl e ↦ (let (q, h, x, z) = st .written t lo e in old-written t q lo h x z)
+    | inl e ↦ (let (q, h, x, z) = st .written t lo e in old-written t q lo h x z)
     | inr e ↦
         (let (p, h, a, b) = locate (λ k. names s (rowAt rows k)) (length rows) (t - length classes) (omega (arith, parts.classes-length s classes rows)) in
         new-written t p h (omega arith) (omega arith))
-    ]
+  ]
 
   first′ : start' 0 ≡ 0
   unfolding sum

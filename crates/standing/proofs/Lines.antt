@@ -31,18 +31,18 @@ pub locate : (f : ℕ → ℕ) (n q : ℕ) → q < sum f n → (p : ℕ) × (p <
 unfolding sum
 locate f zero q h = absurd (omega arith)
 locate f (suc n) q h = elim (cases-lt q (sum f n)) [
-    inl e ↦ (let (p, a, b, c) = locate f n q e in (p, omega arith, b, c))
+  | inl e ↦ (let (p, a, b, c) = locate f n q e in (p, omega arith, b, c))
   | inr e ↦ (n, omega arith, e, omega arith)
-  ]
+]
 
 -- a place is in one part
 pub one-part : (f : ℕ → ℕ) (p r j k : ℕ) → j < f p → k < f r → sum f p + j ≡ sum f r + k → p ≡ r
 unfolding sum
 one-part f p r j k a b e = elim (cases-order p r) [
-    inl x ↦ x
+  | inl x ↦ x
   | inr (inl x) ↦ absurd (omega (arith, sum-mono f (suc p) r x))
   | inr (inr x) ↦ absurd (omega (arith, sum-mono f (suc r) p x))
-  ]
+]
 
 -- ---- lines
 
@@ -73,12 +73,12 @@ has-those t (suc n) k =
     let last : has (when (t n) (single n)) k ≡ (t n && eqb k n) = has-when (t n) (single n) k ∙ rw (has-single n k) refl in
     has-union (those t n) (when (t n) (single n)) k ∙
     rw (has-those t n k, last) (elim (cases-eq k n) [
-        inl p ↦ rw p (rw (le-ltb n n (omega arith), lt-ltb n (suc n) (omega arith), eq-eqb n n refl) (grind arith))
+      | inl p ↦ rw p (rw (le-ltb n n (omega arith), lt-ltb n (suc n) (omega arith), eq-eqb n n refl) (grind arith))
       | inr p ↦ rw (ne-eqb k n p) (elim (cases-lt k n) [
-          inl h ↦ rw (lt-ltb k n h, lt-ltb k (suc n) (omega arith)) (grind arith)
+        | inl h ↦ rw (lt-ltb k n h, lt-ltb k (suc n) (omega arith)) (grind arith)
         | inr h ↦ rw (le-ltb k n h, le-ltb k (suc n) (omega arith)) (grind arith)
-        ])
       ])
+    ])
 
 pub range-length : (n j : ℕ) → length (range n j) ≡ n
 unfolding range

@@ -113,9 +113,9 @@ three-length false false false a b d = refl
 pub replaced-length : (s : Order) (r : Row) → length (replaced s r) ≡ names s r
 unfolding replaced
 replaced-length s r = elim (cases-bool (inner s r)) [
-    inl e ↦ ap length (cond-true _ _ _ e) ∙ sym (cond-true _ _ _ e)
+  | inl e ↦ ap length (cond-true _ _ _ e) ∙ sym (cond-true _ _ _ e)
   | inr e ↦ ap length (replaced-is s r e) ∙ three-length (la s r) (lb s r) (sd s r) (r .a) (r .b) (r .d) ∙ sym (cond-false _ _ _ e)
-  ]
+]
 
 three-a : (x y z : Bool) (a b d : ℕ) → x ≡ true → getD (three x y z a b d) 0 0 ≡ a
 three-a x y z a b d e = rw e refl
@@ -313,21 +313,21 @@ module _ (s : Order) (classes : List ℕ) (rows : List Row) where
     where
       found : (p : ℕ) → p < length rows → pos p ≤ q → q < pos p + spread s (row p) → Came q
       found p a b c = elim (cases-bool (inner s (row p))) [
-          inl y ↦ (let none : spread s (row p) ≡ 0 = cond-true _ _ _ y in absurd (omega arith))
+        | inl y ↦ (let none : spread s (row p) ≡ 0 = cond-true _ _ _ y in absurd (omega arith))
         | inr y ↦ elim (cases-lt q (pos p + before s (row p))) [
-            inl e ↦ elim (new-index (la s (row p)) (lb s (row p)) (pos p) q b e) [
-                inl t ↦ (p, a, y, inl (t .0, t .1, ap made (t .1) ∙ load-a p a y (t .0)))
-              | inr t ↦ (p, a, y, inr (inl (t .0, t .1, ap made (t .1) ∙ load-b p a y (t .0))))
-              ]
+          | inl e ↦ elim (new-index (la s (row p)) (lb s (row p)) (pos p) q b e) [
+            | inl t ↦ (p, a, y, inl (t .0, t .1, ap made (t .1) ∙ load-a p a y (t .0)))
+            | inr t ↦ (p, a, y, inr (inl (t .0, t .1, ap made (t .1) ∙ load-b p a y (t .0))))
+          ]
           | inr e ↦ elim (cases-eq q (pos p + before s (row p))) [
-              inl t ↦ (p, a, y, inr (inr (inl (t, ap made t ∙ core-at p a y))))
+            | inl t ↦ (p, a, y, inr (inr (inl (t, ap made t ∙ core-at p a y))))
             | inr t ↦ elim (cases-bool (sd s (row p))) [
-                inl f ↦ (let z : q ≡ suc (pos p + before s (row p)) = omega (arith, spread-in s (row p) y, bit-true (sd s (row p)) f) in (p, a, y, inr (inr (inr (f, z, ap made z ∙ store-at p a y f)))))
+              | inl f ↦ (let z : q ≡ suc (pos p + before s (row p)) = omega (arith, spread-in s (row p) y, bit-true (sd s (row p)) f) in (p, a, y, inr (inr (inr (f, z, ap made z ∙ store-at p a y f)))))
               | inr f ↦ absurd (omega (arith, spread-in s (row p) y, bit-false (sd s (row p)) f))
-              ]
             ]
           ]
         ]
+      ]
 
   -- ---- classes
 
@@ -342,17 +342,17 @@ module _ (s : Order) (classes : List ℕ) (rows : List Row) where
 
   pub class-small : ((v : ℕ) → classIn classes v ≤ 2) → (v : ℕ) → classIn classesAfter v ≤ 2
   class-small h v = elim (cases-lt v (length classes)) [
-      inl l ↦ rw (class-old v l) (h v)
+    | inl l ↦ rw (class-old v l) (h v)
     | inr l ↦
         (let new : List ℕ = allReplaced s rows in
         let j : ℕ = v - length classes in
         let e : v ≡ length classes + j = omega arith in
         let at : classIn classesAfter v ≡ getD (map (classIn classes) new) j 0 = ap (λ (k : ℕ). classIn classesAfter k) e ∙ getD-append-add classes (map (classIn classes) new) j 0 in
         elim (cases-lt j (length new)) [
-          inl k ↦ omega (arith, at, getD-map (classIn classes) new j 0 0 k, h (getD new j 0))
-        | inr k ↦ omega (arith, at, getD-past (map (classIn classes) new) j 0 (omega (arith, length-map new (classIn classes))))
+          | inl k ↦ omega (arith, at, getD-map (classIn classes) new j 0 0 k, h (getD new j 0))
+          | inr k ↦ omega (arith, at, getD-past (map (classIn classes) new) j 0 (omega (arith, length-map new (classIn classes))))
         ])
-    ]
+  ]
 
   class-new : (p k : ℕ) → p < length rows → k < names s (row p) → classIn classesAfter (tmp p + k) ≡ classIn classes (getD (replaced s (row p)) k 0)
   unfolding allReplaced sum
@@ -363,7 +363,7 @@ module _ (s : Order) (classes : List ℕ) (rows : List Row) where
       let part : (j : ℕ) → j < length rows → getD parts j [] ≡ replaced s (row j) = λ j b. getD-map (replaced s) rows j endRow [] b in
       let same : sum (λ j. length (getD parts j [])) p ≡ sum f p = sum-ext (λ j. length (getD parts j [])) f p (λ j b. ap length (part j (omega arith)) ∙ replaced-length s (row j)) in
       let at : getD (flat parts) (sum (λ j. length (getD parts j [])) p + k) 0 ≡ getD (getD parts p []) k 0 =
-        flat-at parts 0 p k (omega (arith, length-map rows (replaced s))) (omega (arith, ap length (part p h), replaced-length s (row p))) in
+      flat-at parts 0 p k (omega (arith, length-map rows (replaced s))) (omega (arith, ap length (part p h), replaced-length s (row p))) in
       let e : tmp p + k ≡ length classes + (sum f p + k) = omega arith in
       ap (λ (j : ℕ). classIn classesAfter j) e
       ∙ getD-append-add classes (map (classIn classes) (allReplaced s rows)) (sum f p + k) 0

@@ -32,9 +32,9 @@ pub rounds-end : Rounds-end
 unfolding later compiledIn
 rounds-end files zero w = inr (record { spill = λ i h. absurd (omega arith); code = refl })
 rounds-end files (suc k) w = elim (cases-bool (colours (nextRound files w))) [
-    inl e ↦ inl (record { j = 0; below = omega arith; spill = λ i h. absurd (omega arith); colour = e; code = cond-true _ _ _ e })
+  | inl e ↦ inl (record { j = 0; below = omega arith; spill = λ i h. absurd (omega arith); colour = e; code = cond-true _ _ _ e })
   | inr e ↦ elim (rounds-end files k (rewritten w (nextRound files w))) [
-      inl c ↦ inl (record { j = suc (c .j); below = omega (arith, c .below); spill = each files (c .j) w e (c .spill); colour = c .colour; code = cond-false _ _ _ e ∙ c .code })
+    | inl c ↦ inl (record { j = suc (c .j); below = omega (arith, c .below); spill = each files (c .j) w e (c .spill); colour = c .colour; code = cond-false _ _ _ e ∙ c .code })
     | inr c ↦ inr (record { spill = each files k w e (c .spill); code = cond-false _ _ _ e ∙ c .code })
-    ]
   ]
+]

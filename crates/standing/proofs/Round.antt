@@ -87,9 +87,14 @@ module _ (p : Program) (places after : List Place) (s : Order) (classes : List �
         let sn : sd s (w q) ≡ false = rw (op, nd) refl in
         let zs : bit (sd s (w q)) ≡ 0 = bit-false _ sn in
         let e : po q ≡ po q + before s (w q) = omega arith in
-        let c : w' (po q) ≡ coreOf s classes rows q = ap w' e ∙ core-at s classes rows q k ni in
-        (omega (arith, pos-step s classes rows q k, spread-in s (w q) ni), omega (arith, tmp-step s classes rows q, names-in s (w q) ni),
-         ap (λ r. r .op) c ∙ op, ap (λ r. r .d) c ∙ cond-false _ _ _ sn, ap (λ r. r .slot) c, ap (λ r. r .dclass) c)
+        let c : w' (po q) ≡ coreOf s classes rows q = ap w' e ∙ core-at s classes rows q k ni in (
+          omega (arith, pos-step s classes rows q k, spread-in s (w q) ni),
+          omega (arith, tmp-step s classes rows q, names-in s (w q) ni),
+          ap (λ r. r .op) c ∙ op,
+          ap (λ r. r .d) c ∙ cond-false _ _ _ sn,
+          ap (λ r. r .slot) c,
+          ap (λ r. r .dclass) c,
+        )
 
     loads-pos : (q n k : ℕ) → Loads p w q n → q + n < length rows → k ≤ n → (po (q + k) ≡ po q + k) × (te (q + k) ≡ te q)
     loads-pos q n zero ld h l = (ap po (add-zero q) ∙ omega arith, ap te (add-zero q))
@@ -102,12 +107,12 @@ module _ (p : Program) (places after : List Place) (s : Order) (classes : List �
     counted : (q n v x : ℕ) (read : Bool) → Loads p w q n → (read ≡ true → Operand p places w q n v x) → bit (fetched places read v) + bit (read && has (s .out) x) ≡ bit (fetched after read v)
     counted q n v x false ld op = refl
     counted q n v x true ld op = elim (op refl) [
-        inl e ↦ elim (cases-bool (has (s .out) v)) [
-            inl y ↦ (let xo : has (s .out) x ≡ true = rw (e .1) y in rw (e .0, xo, fr .now v y .0) refl)
-          | inr y ↦ (let xo : has (s .out) x ≡ false = rw (e .1) y in rw (e .0, xo, stays-in v (e .0) y) refl)
-          ]
-      | inr e ↦ (let (k, b, dk, _, _) = e .1 in rw (e .0, not-now x (rw (← dk) (ld .temporary k b)), stays-out v (e .0)) refl)
+      | inl e ↦ elim (cases-bool (has (s .out) v)) [
+        | inl y ↦ (let xo : has (s .out) x ≡ true = rw (e .1) y in rw (e .0, xo, fr .now v y .0) refl)
+        | inr y ↦ (let xo : has (s .out) x ≡ false = rw (e .1) y in rw (e .0, xo, stays-in v (e .0) y) refl)
       ]
+      | inr e ↦ (let (k, b, dk, _, _) = e .1 in rw (e .0, not-now x (rw (← dk) (ld .temporary k b)), stays-out v (e .0)) refl)
+    ]
 
     module _ (i n : ℕ) (f : Filled p places w start i n) (older : (q : ℕ) → shape (w q .op) .d ≡ true → w q .d < length classes)
         (targets : shape (rowOf p i .op) .target ≡ true → start (rowOf p i .target) < length rows) (high : start (suc i) ≤ length rows) where
@@ -125,9 +130,9 @@ module _ (p : Program) (places after : List Place) (s : Order) (classes : List �
 
       pub ends-above : c < start (suc i)
       ends-above = elim (cases-bool (shape (rowOf p i .op) .d)) [
-          inr e ↦ omega (arith, f .ends e)
+        | inr e ↦ omega (arith, f .ends e)
         | inl e ↦ elim (b .d e) [ inl x ↦ omega (arith, x .2) | inr x ↦ omega (arith, x .2) ]
-        ]
+      ]
 
       c-in : c < length rows
       c-in = omega (arith, ends-above)
@@ -159,9 +164,9 @@ module _ (p : Program) (places after : List Place) (s : Order) (classes : List �
 
         fresh-at : (q : ℕ) → n ≤ q → q < n′ → (w' (start' i + q) .op ≡ Load) × (w' (start' i + q) .d ≡ te c + (q - n))
         fresh-at q lo hi = elim (new-index (la s r) (lb s r) n q lo hi) [
-            inl e ↦ (let z = at-a (e .0) in rw (e .1) (ap (λ z. z .op) z, ap (λ z. z .d) z ∙ omega arith))
+          | inl e ↦ (let z = at-a (e .0) in rw (e .1) (ap (λ z. z .op) z, ap (λ z. z .d) z ∙ omega arith))
           | inr e ↦ (let z = at-b (e .0) in rw (e .1) (ap (λ z. z .op) z, ap (λ z. z .d) z ∙ omega arith))
-          ]
+        ]
 
         old-at : (q : ℕ) → q < n → (w' (start' i + q) .op ≡ Load) × (w' (start' i + q) .d ≡ w (start i + q) .d) × (w' (start' i + q) .slot ≡ w (start i + q) .slot) × (w' (start' i + q) .dclass ≡ w (start i + q) .dclass)
         old-at q h =
@@ -177,12 +182,12 @@ module _ (p : Program) (places after : List Place) (s : Order) (classes : List �
           load = λ q k. elim (cases-lt q n) [ inl e ↦ old-at q e .0 | inr e ↦ fresh-at q e k .0 ];
           temporary = λ q k. elim (cases-lt q n) [ inl e ↦ rw (old-at q e .1) (b .loads .temporary q e) | inr e ↦ omega (arith, fresh-at q e k .1, te-low c) ];
           twice = λ q t lt k same. elim (cases-lt t n) [
-              inl e ↦ b .loads .twice q t lt e (sym (old-at q (omega arith) .1) ∙ same ∙ old-at t e .1)
+            | inl e ↦ b .loads .twice q t lt e (sym (old-at q (omega arith) .1) ∙ same ∙ old-at t e .1)
             | inr e ↦ elim (cases-lt q n) [
-                inl d ↦ omega (arith, fresh-at t e k .1, old-at q d .1, old-below q d, te-new c)
+              | inl d ↦ omega (arith, fresh-at t e k .1, old-at q d .1, old-below q d, te-new c)
               | inr d ↦ omega (arith, fresh-at t e k .1, fresh-at q d (omega arith) .1)
-              ]
-            ];
+            ]
+          ];
         }
 
         -- an operand, at the place of its new load if it has one
@@ -190,10 +195,10 @@ module _ (p : Program) (places after : List Place) (s : Order) (classes : List �
             (here ≡ true → (at < n′) × (w' (start' i + at) .d ≡ y) × (w' (start' i + at) .slot ≡ slotIn s x) × (w' (start' i + at) .dclass ≡ classIn classes x)) →
             (here ≡ false → y ≡ x) → Operand p places w (start i) n v x → Operand p after w' (start' i) n′ v y
         operand v x y at here vl hn yes′ no′ (inl e) = elim (cases-bool here) [
-            inl t ↦ (let g = yes′ t in let out : has (s .out) v ≡ true = ap (has (s .out)) (sym (e .1)) ∙ sym hn ∙ t in
+          | inl t ↦ (let g = yes′ t in let out : has (s .out) v ≡ true = ap (has (s .out)) (sym (e .1)) ∙ sym hn ∙ t in
               inr (fr .now v out .0, (at, g .0, g .1, g .2 ∙ ap (slotIn s) (e .1) ∙ sym (fr .now v out .1), g .3 ∙ ap (classIn classes) (e .1) ∙ fr .class v vl)))
           | inr t ↦ inl (stays-in v (e .0) (ap (has (s .out)) (sym (e .1)) ∙ sym hn ∙ t), no′ t ∙ e .1)
-          ]
+        ]
         operand v x y at here vl hn yes′ no′ (inr e) =
             let (q, k, dq, sq, bq) = e .1 in
             let not-here : here ≡ false = hn ∙ not-now x (rw (← dq) (b .loads .temporary q k)) in
@@ -214,13 +219,17 @@ module _ (p : Program) (places after : List Place) (s : Order) (classes : List �
             let sn : sd s (w q) ≡ false = rw op refl in
             let zs : bit (sd s (w q)) ≡ 0 = bit-false _ sn in
             let z : po q ≡ po q + before s (w q) = omega arith in
-            let e : w' (po q) ≡ coreOf s classes rows q = ap w' z ∙ core-at s classes rows q k mi in
-            (omega (arith, pos-step s classes rows q k, spread-in s (w q) mi), ap (λ r. r .op) e ∙ op, ap (λ r. r .a) e ∙ cond-false _ _ _ ln, ap (λ r. r .slot) e,
-             omega (arith, tmp-step s classes rows q, names-in s (w q) mi))
+            let e : w' (po q) ≡ coreOf s classes rows q = ap w' z ∙ core-at s classes rows q k mi in (
+              omega (arith, pos-step s classes rows q k, spread-in s (w q) mi),
+              ap (λ r. r .op) e ∙ op,
+              ap (λ r. r .a) e ∙ cond-false _ _ _ ln,
+              ap (λ r. r .slot) e,
+              omega (arith, tmp-step s classes rows q, names-in s (w q) mi),
+            )
 
         result : shape (rowOf p i .op) .d ≡ true → Stored p places w c (rowOf p i .d) (start (suc i)) → Stored p after w' (start' i + n′) (rowOf p i .d) (start' (suc i))
         result yw (inl e) = elim (cases-bool (has (s .out) (rowOf p i .d))) [
-            inr z ↦
+          | inr z ↦
               (let sn : sd s r ≡ false = and-right _ _ (ap (has (s .out)) (e .1) ∙ z) in
               inl (stays-in _ (e .0) z, ap (λ r. r .d) at-core ∙ cond-false _ _ _ sn ∙ e .1, ap po (e .2) ∙ after-core sn))
           | inl z ↦
@@ -229,14 +238,20 @@ module _ (p : Program) (places after : List Place) (s : Order) (classes : List �
               let st = at-store sy in
               let nx : po (suc c) ≡ suc (suc (start' i + n′)) = omega (arith, pos-c, pos-step s classes rows c c-in, spread-in s r ni, bit-true _ sy) in
               inr (fr .now _ z .0, omega (arith, core-d, te-low c), ap po (e .2) ∙ nx, ap (λ r. r .op) st, ap (λ r. r .a) st ∙ sym core-d, ap (λ r. r .slot) st ∙ ap (slotIn s) (e .1) ∙ sym (fr .now _ z .1)))
-          ]
+        ]
         result yw (inr e) =
             let sn : sd s r ≡ false = and-right _ _ (not-now (r .d) (e .1)) in
             let ac = after-core sn in
             let st = store-stays (omega (arith, e .2)) (e .3) (rw (e .4) (e .1)) in
             let core-d : w' (start' i + n′) .d ≡ r .d = ap (λ r. r .d) at-core ∙ cond-false _ _ _ sn in
-            inr (stays-out _ (e .0), rw core-d (e .1), ap po (e .2) ∙ st .0 ∙ ap suc ac, ap (λ q. w' q .op) (sym ac) ∙ st .1,
-                 ap (λ q. w' q .a) (sym ac) ∙ st .2 ∙ e .4 ∙ sym core-d, ap (λ q. w' q .slot) (sym ac) ∙ st .3 ∙ e .5 ∙ sym (slot-stays _ (e .0)))
+            inr (
+              stays-out _ (e .0),
+              rw core-d (e .1),
+              ap po (e .2) ∙ st .0 ∙ ap suc ac,
+              ap (λ q. w' q .op) (sym ac) ∙ st .1,
+              ap (λ q. w' q .a) (sym ac) ∙ st .2 ∙ e .4 ∙ sym core-d,
+              ap (λ q. w' q .slot) (sym ac) ∙ st .3 ∙ e .5 ∙ sym (slot-stays _ (e .0)),
+            )
 
         target′ : shape (rowOf p i .op) .target ≡ true → w' (start' i + n′) .target ≡ start' (rowOf p i .target)
         target′ j =
@@ -272,17 +287,17 @@ module _ (p : Program) (places after : List Place) (s : Order) (classes : List �
         -- as many new temporaries as new rows
         pub grows : (start' (suc i) + te (start i) ≡ start' i + (start (suc i) - start i) + te (start (suc i)))
         grows = elim (cases-bool (shape (rowOf p i .op) .d)) [
-            inr nw ↦ (let e = f .ends nw in
+          | inr nw ↦ (let e = f .ends nw in
               let sn : sd s r ≡ false = and-left (shape (r .op) .d) (has (s .out) (r .d)) (rw (b .op) nw) in
               omega (arith, e, after-core sn, ap po e, ap te e, tmp-c, tmp-step s classes rows c, names-in s r ni, bit-false _ sn))
           | inl yw ↦ elim (b .d yw) [
-              inl e ↦ omega (arith, e .2, ap po (e .2), ap te (e .2), pos-c, pos-step s classes rows c c-in, spread-in s r ni, tmp-c, tmp-step s classes rows c, names-in s r ni)
+            | inl e ↦ omega (arith, e .2, ap po (e .2), ap te (e .2), pos-c, pos-step s classes rows c c-in, spread-in s r ni, tmp-c, tmp-step s classes rows c, names-in s r ni)
             | inr e ↦
                 (let sn : sd s r ≡ false = and-right _ _ (not-now (r .d) (e .1)) in
                 let st = store-stays (omega (arith, e .2)) (e .3) (rw (e .4) (e .1)) in
                 omega (arith, e .2, ap po (e .2), ap te (e .2), st .0, st .4, after-core sn, tmp-c, tmp-step s classes rows c, names-in s r ni, bit-false _ sn))
-            ]
           ]
+        ]
 
       -- a copy inside one spilled node goes
       pub gone′ : inner s r ≡ true → Inner p after start' i × ((start (suc i) ≡ suc (start i)) × (te (start (suc i)) ≡ te (start i)))
@@ -292,22 +307,24 @@ module _ (p : Program) (places after : List Place) (s : Order) (classes : List �
           let x3 = and-parts (has (s .out) (r .d)) _ (x2 .0) in
           let oc : rowOf p i .op ≡ Copy = sym (b .op) ∙ is-copy (r .op) (x1 .0) in
           let a-same : (r .a ≡ rowOf p i .a) × (spilled places (rowOf p i .a) ≡ false) = elim (b .a (rw oc refl)) [
-              inl e ↦ (e .1, e .0)
+            | inl e ↦ (e .1, e .0)
             | inr e ↦ (let (q, k, dq, _, _) = e .1 in absurd (omega (arith, fr .vars (r .a) (x3 .1), b .loads .temporary q k)))
-            ] in
+          ] in
           let d-same : (r .d ≡ rowOf p i .d) × (start (suc i) ≡ suc c) = elim (b .d (rw oc refl)) [
-              inl e ↦ (e .1, e .2)
+            | inl e ↦ (e .1, e .2)
             | inr e ↦ absurd (omega (arith, fr .vars (r .d) (x3 .0), e .1))
-            ] in
+          ] in
           let none : n ≡ 0 = f .counts ∙ rw (oc, a-same .1) refl in
           let dd = fr .now (rowOf p i .d) (ap (has (s .out)) (sym (d-same .0)) ∙ x3 .0) in
           let ao = fr .now (rowOf p i .a) (ap (has (s .out)) (sym (a-same .0)) ∙ x3 .1) in
           let flat : spread s r ≡ 0 = cond-true _ _ _ y in
-          let bare : names s r ≡ 0 = cond-true _ _ _ y in
-          (record {
-            copy = rw oc refl;
-            d = dd .0;
-            a = ao .0;
-            same = dd .1 ∙ ap (slotIn s) (sym (d-same .0)) ∙ eqb-true _ _ (x2 .1) ∙ ap (slotIn s) (a-same .0) ∙ sym (ao .1);
-            next = ap po (d-same .1) ∙ omega (arith, pos-c, pos-step s classes rows c c-in);
-          }, (omega (arith, d-same .1), ap te (d-same .1) ∙ omega (arith, tmp-step s classes rows c, tmp-c)))
+          let bare : names s r ≡ 0 = cond-true _ _ _ y in (
+            record {
+              copy = rw oc refl;
+              d = dd .0;
+              a = ao .0;
+              same = dd .1 ∙ ap (slotIn s) (sym (d-same .0)) ∙ eqb-true _ _ (x2 .1) ∙ ap (slotIn s) (a-same .0) ∙ sym (ao .1);
+              next = ap po (d-same .1) ∙ omega (arith, pos-c, pos-step s classes rows c c-in);
+            },
+            (omega (arith, d-same .1), ap te (d-same .1) ∙ omega (arith, tmp-step s classes rows c, tmp-c)),
+          )

@@ -42,17 +42,17 @@ module _ (w : Working) (start : ℕ → ℕ) (st : Standing w start) (live : ℕ
   over-inner : (v i d j : ℕ) → i + d ≡ j → j < sourceRows w → start i ≡ start j → spilled (w .places) v ≡ false → live j v ≡ true → live i v ≡ true
   over-inner v i zero j e h z ns l = let q : j ≡ i = omega arith in subst (λ (k : ℕ). live k v ≡ true) q l
   over-inner v i (suc d) j e h z ns l = elim (st .stands i (omega arith)) [
-      inl g ↦ lv .below i v (copy-falls _ (g .copy)) (over-inner v (suc i) d j (omega arith) h (g .next ∙ z) ns l) (λ _ q. both-ways _ ns (ap (spilled (w .places)) q ∙ g .d))
+    | inl g ↦ lv .below i v (copy-falls _ (g .copy)) (over-inner v (suc i) d j (omega arith) h (g .next ∙ z) ns l) (λ _ q. both-ways _ ns (ap (spilled (w .places)) q ∙ g .d))
     | inr b ↦ absurd (omega (arith, ends w start st i (b .0) (b .1), up w start st (suc i) j (omega arith) (omega arith)))
-    ]
+  ]
 
   module _ (q v i n : ℕ) (h : i < sourceRows w) (f : Fill i n) (ns : spilled (w .places) v ≡ false) where
     to-row : start i ≤ q → q ≤ start i + n → live i v ≡ true → Comes w start live q v
     to-row lo hi l = record {
       first = λ j hj e. elim (cases-lt i j) [
-          inl z ↦ absurd (omega (arith, up w start st (suc i) j z (omega arith), ends w start st i n f))
+        | inl z ↦ absurd (omega (arith, up w start st (suc i) j z (omega arith), ends w start st i n f))
         | inr z ↦ (let low = up w start st j i z (omega arith) in let same : start j ≡ start i = omega arith in over-inner v j (i - j) i (omega arith) h same ns l)
-        ];
+      ];
       inside = λ j k hj g a b.
           (let e = same-block q i n j k h hj f g lo (omega (arith, ends w start st i n f)) (omega arith) (omega (arith, ends w start st j k g)) .0 in subst (λ (z : ℕ). live z v ≡ true) e l);
       behind = λ j k hj g a b. absurd
@@ -62,9 +62,9 @@ module _ (w : Working) (start : ℕ → ℕ) (st : Standing w start) (live : ℕ
     to-store : q ≡ suc (start i + n) → q < start (suc i) → live (suc i) v ≡ true → Comes w start live q v
     to-store at hi l = record {
       first = λ j hj e. absurd (elim (cases-lt i j) [
-          inl z ↦ omega (arith, up w start st (suc i) j z (omega arith))
+        | inl z ↦ omega (arith, up w start st (suc i) j z (omega arith))
         | inr z ↦ omega (arith, up w start st j i z (omega arith))
-        ]);
+      ]);
       inside = λ j k hj g a b. absurd
           (let e = same-block q i n j k h hj f g (omega arith) hi (omega arith) (omega (arith, ends w start st j k g)) in omega (arith, e .1, ap start (e .0)));
       behind = λ j k hj g a b. (let e = same-block q i n j k h hj f g (omega arith) hi (omega arith) b .0 in subst (λ (z : ℕ). live (suc z) v ≡ true) e l);
@@ -76,13 +76,13 @@ module _ (w : Working) (start : ℕ → ℕ) (st : Standing w start) (live : ℕ
       let y : shape (rowOf src i .op) .a ≡ true = sym (ap (λ (o : Op). shape o .a) (ap (λ (k : ℕ). line k .op) e ∙ f .block .op)) ∙ x in
       let qa : line q .a ≡ line (start i + n) .a = ap (λ (k : ℕ). line k .a) e in
       elim (f .block .a y) [
-        inl r ↦ to-row q (line q .a) i n h f ns lo (omega arith) (subst (λ (z : ℕ). live i z ≡ true) (sym (qa ∙ r .1)) (lv .reads-a i y))
-      | inr r ↦ (let (k, kn, dk, _, _) = r .1 in absurd (omega (arith, f .block .loads .temporary k kn)))
+        | inl r ↦ to-row q (line q .a) i n h f ns lo (omega arith) (subst (λ (z : ℕ). live i z ≡ true) (sym (qa ∙ r .1)) (lv .reads-a i y))
+        | inr r ↦ (let (k, kn, dk, _, _) = r .1 in absurd (omega (arith, f .block .loads .temporary k kn)))
       ]
   use-a q x (i, h, n, f, lo, inr (inr (e, hi, y, o, a))) b ns = elim (f .block .d y) [
-      inl r ↦ absurd (omega (arith, r .2))
+    | inl r ↦ absurd (omega (arith, r .2))
     | inr r ↦ absurd (omega (arith, r .1))
-    ]
+  ]
 
   use-b : (q : ℕ) → shape (line q .op) .b ≡ true → Kinds w start st q → P q (line q .b)
   use-b q x (i, h, n, f, lo, inl (e, _)) b ns = absurd (true≢false (sym x ∙ rw e refl))
@@ -90,8 +90,8 @@ module _ (w : Working) (start : ℕ → ℕ) (st : Standing w start) (live : ℕ
       let y : shape (rowOf src i .op) .b ≡ true = sym (ap (λ (o : Op). shape o .b) (ap (λ (k : ℕ). line k .op) e ∙ f .block .op)) ∙ x in
       let qb : line q .b ≡ line (start i + n) .b = ap (λ (k : ℕ). line k .b) e in
       elim (f .block .b y) [
-        inl r ↦ to-row q (line q .b) i n h f ns lo (omega arith) (subst (λ (z : ℕ). live i z ≡ true) (sym (qb ∙ r .1)) (lv .reads-b i y))
-      | inr r ↦ (let (k, kn, dk, _, _) = r .1 in absurd (omega (arith, f .block .loads .temporary k kn)))
+        | inl r ↦ to-row q (line q .b) i n h f ns lo (omega arith) (subst (λ (z : ℕ). live i z ≡ true) (sym (qb ∙ r .1)) (lv .reads-b i y))
+        | inr r ↦ (let (k, kn, dk, _, _) = r .1 in absurd (omega (arith, f .block .loads .temporary k kn)))
       ]
   use-b q x (i, h, n, f, lo, inr (inr (e, hi, y, o, a))) b ns = absurd (true≢false (sym x ∙ rw o refl))
 
@@ -101,18 +101,18 @@ module _ (w : Working) (start : ℕ → ℕ) (st : Standing w start) (live : ℕ
       let op : line q .op ≡ rowOf src i .op = ap (λ (k : ℕ). line k .op) e ∙ f .block .op in
       let fs : shape (rowOf src i .op) .falls ≡ true = sym (ap (λ (o : Op). shape o .falls) op) ∙ fl in
       let on : live (suc i) v ≡ true = elim (cases-lt (suc q) (start (suc i))) [
-          inl z ↦ pv b ns .behind i n h f (omega arith) z
+        | inl z ↦ pv b ns .behind i n h f (omega arith) z
         | inr z ↦ pv b ns .first (suc i) (so w start st .below i h fs) (omega (arith, ends w start st i n f))
-        ] in
+      ] in
       let free : shape (rowOf src i .op) .d ≡ true → v ≡ rowOf src i .d → ⊥ = λ y z. elim (f .block .d y) [
-          inl r ↦ nw (ap (λ (o : Op). shape o .d) op ∙ y) (z ∙ sym (r .1) ∙ sym (ap (λ (k : ℕ). line k .d) e))
+        | inl r ↦ nw (ap (λ (o : Op). shape o .d) op ∙ y) (z ∙ sym (r .1) ∙ sym (ap (λ (k : ℕ). line k .d) e))
         | inr r ↦ both-ways _ ns (ap (spilled (w .places)) z ∙ r .0)
-        ] in
+      ] in
       to-row q v i n h f ns lo (omega arith) (lv .below i v fs on free)
   below-row q v fl pv nw (i, h, n, f, lo, inr (inr (e, hi, y, o, a))) b ns = elim (f .block .d y) [
-      inl r ↦ absurd (omega (arith, r .2))
+    | inl r ↦ absurd (omega (arith, r .2))
     | inr r ↦ to-store q v i n h f ns e hi (pv b ns .first (suc i) (so w start st .below i h (writes-fall _ y)) (omega (arith, r .2)))
-    ]
+  ]
 
   over-jump : (q v : ℕ) → shape (line q .op) .target ≡ true → P (line q .target) v → Kinds w start st q → P q v
   over-jump q v x pv (i, h, n, f, lo, inl (e, _)) b ns = absurd (true≢false (sym x ∙ rw e refl))

@@ -79,9 +79,9 @@ module _ (w : Working) (start : ℕ → ℕ) (o : Outcome) (st : Standing w star
     new = λ v y. let e = out-parts v y in sp .members v (e .0) (e .1);
     now = λ v y. let e = place-is v (out-parts v y .0) ∙ cond-true _ _ _ y in (ap (λ (z : Place). isSlot (z .home)) e, ap (λ (z : Place). z .number) e);
     old = λ v n. elim (cases-lt v vars) [
-        inl h ↦ place-is v h ∙ cond-false _ _ _ n
+      | inl h ↦ place-is v h ∙ cond-false _ _ _ n
       | inr h ↦ getD-past after v noPlace (omega (arith, places-length)) ∙ sym (getD-past (w .places) v noPlace (omega (arith, st .places)))
-      ];
+    ];
     class = st .class;
     low = low;
   }
@@ -99,17 +99,17 @@ module _ (w : Working) (start : ℕ → ℕ) (o : Outcome) (st : Standing w star
 
   pub slot-below : (v : ℕ) → spilled after v ≡ true → slotOf after v < slotsAfter w o
   slot-below v y = elim (cases-bool (has (ord .out) v)) [
-      inl e ↦ omega (arith, fresh .now v e .1, slot-new v e .1)
+    | inl e ↦ omega (arith, fresh .now v e .1, slot-new v e .1)
     | inr e ↦
         (let was : spilled (w .places) v ≡ true = sym (ap (λ (z : Place). isSlot (z .home)) (fresh .old v e)) ∙ y in
         omega (arith, slot-stays (w .source) (w .places) after ord (w .classes) fresh v was, st .slot v was, slots-grow))
-    ]
+  ]
 
   both : (k : ℕ) → bit (spilled (w .places) k) + bit (has (ord .out) k) ≡ bit (spilled after k)
   both k = elim (cases-bool (has (ord .out) k)) [
-      inl e ↦ rw (e, fresh .new k e, fresh .now k e .0) refl
+    | inl e ↦ rw (e, fresh .new k e, fresh .now k e .0) refl
     | inr e ↦ (let same : spilled after k ≡ spilled (w .places) k = ap (λ (z : Place). isSlot (z .home)) (fresh .old k e) in rw (e, same) (omega arith))
-    ]
+  ]
 
   -- each slot has a variable of its own
   pub slots-count : slotsAfter w o ≤ count (spilled after) vars
@@ -120,36 +120,36 @@ module _ (w : Working) (start : ℕ → ℕ) (o : Outcome) (st : Standing w star
       let e : length (w .classes) ≡ vars + d = omega (arith, low) in
       let few : count t (length (w .classes)) ≡ count t vars = ap (count t) e ∙ count-only t vars d (λ k y. sp .own k y .0) in
       let less : count t vars ≤ count (has (ord .out)) vars =
-        sum-below (λ k. cond (t k) 1 0) (λ k. cond (has (ord .out) k) 1 0) vars (λ k h. bit-mono (t k) (has (ord .out) k) (λ y. out-from k h (ap t (sp .own k y .1) ∙ y))) in
+      sum-below (λ k. cond (t k) 1 0) (λ k. cond (has (ord .out) k) 1 0) vars (λ k h. bit-mono (t k) (has (ord .out) k) (λ y. out-from k h (ap t (sp .own k y .1) ∙ y))) in
       let all : count (spilled (w .places)) vars + count (has (ord .out)) vars ≡ count (spilled after) vars = count-add (spilled (w .places)) (has (ord .out)) (spilled after) vars (λ k h. both k) in
       omega (arith, st .slots)
 
   size-apart : (u v : ℕ) → has (o .spilled) u ≡ true → has (o .spilled) v ≡ true → size u (o .spilled) ≡ size v (o .spilled) → u ≡ v
   size-apart u v x y e = elim (cases-order u v) [
-      inl z ↦ z
+    | inl z ↦ z
     | inr (inl z) ↦ absurd (omega (arith, count-rises (has (o .spilled)) u v z x))
     | inr (inr z) ↦ absurd (omega (arith, count-rises (has (o .spilled)) v u z y))
-    ]
+  ]
 
   -- two variables share a slot only if they did, or are of one node spilled now
   pub shared : (u v : ℕ) → spilled after u ≡ true → spilled after v ≡ true → slotOf after u ≡ slotOf after v →
       ((spilled (w .places) u ≡ true) × (spilled (w .places) v ≡ true) × (slotOf (w .places) u ≡ slotOf (w .places) v))
       ⊎ ((has (o .spilled) (node u) ≡ true) × (node u ≡ node v))
   shared u v x y e = elim (cases-bool (has (ord .out) u)) [
-      inl a ↦ elim (cases-bool (has (ord .out) v)) [
-          inl b ↦
-            (let (uh, us) = out-parts u a in let (vh, vs) = out-parts v b in
-            let same : size (node u) (o .spilled) ≡ size (node v) (o .spilled) = omega (arith, fresh .now u a .1, fresh .now v b .1, slot-is u uh, slot-is v vh) in
-            inr (us, size-apart (node u) (node v) us vs same))
-        | inr b ↦ (let c = was v b y in absurd (omega (arith, fresh .now u a .1, slot-new u a .0, c .1, st .slot v (c .0))))
-        ]
+    | inl a ↦ elim (cases-bool (has (ord .out) v)) [
+      | inl b ↦
+          (let (uh, us) = out-parts u a in let (vh, vs) = out-parts v b in
+          let same : size (node u) (o .spilled) ≡ size (node v) (o .spilled) = omega (arith, fresh .now u a .1, fresh .now v b .1, slot-is u uh, slot-is v vh) in
+          inr (us, size-apart (node u) (node v) us vs same))
+      | inr b ↦ (let c = was v b y in absurd (omega (arith, fresh .now u a .1, slot-new u a .0, c .1, st .slot v (c .0))))
+    ]
     | inr a ↦
         (let c = was u a x in
         elim (cases-bool (has (ord .out) v)) [
-          inl b ↦ absurd (omega (arith, fresh .now v b .1, slot-new v b .0, c .1, st .slot u (c .0)))
-        | inr b ↦ (let d = was v b y in inl (c .0, d .0, sym (c .1) ∙ e ∙ d .1))
+          | inl b ↦ absurd (omega (arith, fresh .now v b .1, slot-new v b .0, c .1, st .slot u (c .0)))
+          | inr b ↦ (let d = was v b y in inl (c .0, d .0, sym (c .1) ∙ e ∙ d .1))
         ])
-    ]
+  ]
     where
       was : (x : ℕ) → has (ord .out) x ≡ false → spilled after x ≡ true → (spilled (w .places) x ≡ true) × (slotOf after x ≡ slotOf (w .places) x)
       was x n y = (sym (ap (λ (z : Place). isSlot (z .home)) (fresh .old x n)) ∙ y, ap (λ (z : Place). z .number) (fresh .old x n))

@@ -25,9 +25,9 @@ use Rattle.standing.proofs.Round.{is-copy}
 -- a test that the row end fails passes only of rows that there are
 pub present : (t : Op → Bool) (rows : List Row) (q : ℕ) → t End ≡ false → t (rowAt rows q .op) ≡ true → q < length rows
 present t rows q e y = elim (cases-lt q (length rows)) [
-    inl h ↦ h
+  | inl h ↦ h
   | inr h ↦ absurd (both-ways _ (ap (λ (r : Row). t (r .op)) (getD-past rows q endRow h) ∙ e) y)
-  ]
+]
 
 no-slot : (op : Op) → opcode op ≤ 12 → shape op .slot ≡ false
 no-slot End h = refl
@@ -67,9 +67,9 @@ module _ (p : Program) (wf : WellFormed p) where
     some = wf .some;
     most = wf .most;
     below = λ i h y. elim (cases-eq (suc i) (length (p .rows))) [
-        inl e ↦ (let z : i ≡ length (p .rows) - 1 = omega arith in absurd (both-ways _ (ap (λ (j : ℕ). shape (rowOf p j .op) .falls) z ∙ wf .last) y))
+      | inl e ↦ (let z : i ≡ length (p .rows) - 1 = omega arith in absurd (both-ways _ (ap (λ (j : ℕ). shape (rowOf p j .op) .falls) z ∙ wf .last) y))
       | inr e ↦ omega arith
-      ];
+    ];
     target = λ i h y. well i h .target .within y;
     var-a = λ i y. well-if (λ op. shape op .a) i refl y .a .within y;
     var-b = λ i y. well-if (λ op. shape op .b) i refl y .b .within y;
@@ -80,18 +80,18 @@ module _ (p : Program) (wf : WellFormed p) where
         let yd : shape (rowOf p i .op) .d ≡ true = rw (is-copy _ y) refl in
         sym (r .dclass ∙ cond-true _ _ _ yd ∙ copy-fits (rowOf p i .op) _ _ _ y (r .suits));
     plain = λ i. elim (cases-lt i (length (p .rows))) [
-        inl h ↦ no-slot _ (well i h .source)
+      | inl h ↦ no-slot _ (well i h .source)
       | inr h ↦ ap (λ (r : Row). shape (r .op) .slot) (getD-past (p .rows) i endRow h)
-      ];
+    ];
   }
 
   -- ---- before the first round
 
   none-spilled : (v : ℕ) → spilled (replicate (p .vars) noPlace) v ≡ false
   none-spilled v = elim (cases-lt v (p .vars)) [
-      inl h ↦ ap (λ (z : Place). isSlot (z .home)) (getD-replicate (p .vars) v noPlace noPlace h)
+    | inl h ↦ ap (λ (z : Place). isSlot (z .home)) (getD-replicate (p .vars) v noPlace noPlace h)
     | inr h ↦ ap (λ (z : Place). isSlot (z .home)) (getD-past (replicate (p .vars) noPlace) v noPlace (omega (arith, length-replicate (p .vars) noPlace)))
-    ]
+  ]
 
   none-fetched : (read : Bool) (v : ℕ) → bit (fetched (replicate (p .vars) noPlace) read v) ≡ 0
   none-fetched true v = rw (none-spilled v) refl
@@ -156,15 +156,15 @@ admitted-stands p wf = first-stands p wf
 module _ (w : Working) (start : ℕ → ℕ) (st : Standing w start) where
   pub filled-ends : (i n : ℕ) → Filled (w .source) (w .places) (lineOf w) start i n → (start i + n < start (suc i)) × (start (suc i) ≤ start i + 4)
   filled-ends i n f = elim (cases-bool (shape (rowOf (w .source) i .op) .d)) [
-      inr e ↦ (omega (arith, f .ends e), omega (arith, f .ends e, f .block .few))
+    | inr e ↦ (omega (arith, f .ends e), omega (arith, f .ends e, f .block .few))
     | inl e ↦ elim (f .block .d e) [ inl x ↦ (omega (arith, x .2), omega (arith, x .2, f .block .few)) | inr x ↦ (omega (arith, x .2), omega (arith, x .2, f .block .few)) ]
-    ]
+  ]
 
   pub step : (i : ℕ) → i < sourceRows w → (start i ≤ start (suc i)) × (start (suc i) ≤ start i + 4)
   step i h = elim (st .stands i h) [
-      inl g ↦ (omega (arith, g .next), omega (arith, g .next))
+    | inl g ↦ (omega (arith, g .next), omega (arith, g .next))
     | inr b ↦ (let e = filled-ends i (b .0) (b .1) in (omega (arith, e .0), e .1))
-    ]
+  ]
 
   pub rises : (i d j : ℕ) → i + d ≡ j → j ≤ sourceRows w → start i ≤ start j
   rises i zero j e h = let q : i ≡ j = omega arith in rw q (omega arith)
@@ -173,11 +173,11 @@ module _ (w : Working) (start : ℕ → ℕ) (st : Standing w start) where
 
   last-block : (i : ℕ) → suc i ≡ sourceRows w → start i < start (suc i)
   last-block i e = elim (st .stands i (omega arith)) [
-      inl g ↦
+    | inl g ↦
         (let z : i ≡ length (w .source .rows) - 1 = omega arith in
         absurd (both-ways _ (ap (λ (j : ℕ). shape (rowOf (w .source) j .op) .falls) z ∙ st .wellFormed .last) (copy-falls _ (g .copy))))
     | inr b ↦ omega (arith, filled-ends i (b .0) (b .1) .0)
-    ]
+  ]
 
   -- every block starts at a row that there is
   pub starts-inside : (t : ℕ) → t < sourceRows w → start t < length (w .rows)

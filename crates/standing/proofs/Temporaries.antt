@@ -47,15 +47,15 @@ pub record Closed (w : ℕ → Row) (P : ℕ → ℕ → Type 0) : Type 0 where
 pub backward : (rows : List Row) (P : ℕ → ℕ → Type 0) → Closed (rowAt rows) P → Backward rows P
 backward rows P c = record {
   reads = λ i v h. elim (two-cases (shape (rowAt rows i .op) .a) (rowAt rows i .a) (only (shape (rowAt rows i .op) .b) (rowAt rows i .b)) v h) [
-      inl e ↦ subst (P i) (sym (e .1)) (c .reads-a i (e .0))
+    | inl e ↦ subst (P i) (sym (e .1)) (c .reads-a i (e .0))
     | inr e ↦ (let f = one-case (shape (rowAt rows i .op) .b) (rowAt rows i .b) v e in subst (P i) (sym (f .1)) (c .reads-b i (f .0)))
-    ];
+  ];
   back = λ i j v g nw pj. elim (two-cases (shape (rowAt rows i .op) .target) (rowAt rows i .target) (only (shape (rowAt rows i .op) .falls) (suc i)) j g) [
-      inl e ↦ c .target i v (e .0) (subst (λ (k : ℕ). P k v) (e .1) pj)
+    | inl e ↦ c .target i v (e .0) (subst (λ (k : ℕ). P k v) (e .1) pj)
     | inr e ↦
         (let f = one-case (shape (rowAt rows i .op) .falls) (suc i) j e in
         c .below i v (f .0) (subst (λ (k : ℕ). P k v) (f .1) pj) (λ y z. absurd (both-ways _ nw (one-holds (shape (rowAt rows i .op) .d) (rowAt rows i .d) v y z))))
-    ];
+  ];
 }
 
 module _ (w : Working) (start : ℕ → ℕ) (st : Standing w start) where
@@ -77,10 +77,10 @@ module _ (w : Working) (start : ℕ → ℕ) (st : Standing w start) where
   -- the block of a place
   pub one-block : (q i j : ℕ) → i < sourceRows w → j < sourceRows w → start i ≤ q → q < start (suc i) → start j ≤ q → q < start (suc j) → i ≡ j
   one-block q i j hi hj a b c d = elim (cases-order i j) [
-      inl e ↦ e
+    | inl e ↦ e
     | inr (inl e) ↦ absurd (omega (arith, up (suc i) j e (omega arith)))
     | inr (inr e) ↦ absurd (omega (arith, up (suc j) i e (omega arith)))
-    ]
+  ]
 
   search-block : (k q : ℕ) → k ≤ sourceRows w → q < start k → (i : ℕ) × (i < sourceRows w) × (start i ≤ q) × (q < start (suc i))
   search-block zero q l h = absurd (omega (arith, st .first))
@@ -93,22 +93,22 @@ module _ (w : Working) (start : ℕ → ℕ) (st : Standing w start) where
 
   kinds : (q i : ℕ) → i < sourceRows w → start i ≤ q → q < start (suc i) → Kinds q
   kinds q i h lo hi = elim (st .stands i h) [
-      inl g ↦ absurd (omega (arith, g .next))
+    | inl g ↦ absurd (omega (arith, g .next))
     | inr k ↦ in-block (k .0) (k .1)
-    ]
+  ]
     where
       in-block : (n : ℕ) → Fill i n → Kinds q
       in-block n f = elim (cases-order q (start i + n)) [
-          inl e ↦ (i, h, n, f, lo, inr (inl e))
+        | inl e ↦ (i, h, n, f, lo, inr (inl e))
         | inr (inl e) ↦ (let z : q ≡ start i + (q - start i) = omega arith in (i, h, n, f, lo, inl (rw z (f .block .loads .load (q - start i) (omega arith)), e)))
         | inr (inr e) ↦ elim (cases-bool (shape (rowOf src i .op) .d)) [
-            inr x ↦ absurd (omega (arith, f .ends x))
+          | inr x ↦ absurd (omega (arith, f .ends x))
           | inl x ↦ elim (f .block .d x) [
-              inl r ↦ absurd (omega (arith, r .2))
+            | inl r ↦ absurd (omega (arith, r .2))
             | inr r ↦ (let z : q ≡ suc (start i + n) = omega (arith, r .2) in (i, h, n, f, lo, inr (inr (z, hi, x, rw z (r .3), rw z (r .4)))))
-            ]
           ]
         ]
+      ]
 
   kind : (q : ℕ) → q < length (w .rows) → Kinds q
   kind q h = let (i, l, a, b) = search-block (sourceRows w) q (omega arith) (omega (arith, st .long)) in kinds q i l a b
@@ -129,13 +129,13 @@ module _ (w : Working) (start : ℕ → ℕ) (st : Standing w start) where
   -- a place inside a block is no place that a jump goes to
   no-landing : (t v : ℕ) → t < sourceRows w → Inside w start (start t) v → ⊥
   no-landing t v h (i, g, n, f, inl (k, b, dk, lo, hi)) = elim (cases-lt i t) [
-      inl e ↦ omega (arith, up (suc i) t e (omega arith), ends i n f)
+    | inl e ↦ omega (arith, up (suc i) t e (omega arith), ends i n f)
     | inr e ↦ omega (arith, up t i e (omega arith))
-    ]
+  ]
   no-landing t v h (i, g, n, f, inr (e, dv, hi, _)) = elim (cases-lt i t) [
-      inl k ↦ omega (arith, up (suc i) t k (omega arith))
+    | inl k ↦ omega (arith, up (suc i) t k (omega arith))
     | inr k ↦ omega (arith, up t i k (omega arith))
-    ]
+  ]
 
   use-a : (q : ℕ) → shape (line q .op) .a ≡ true → Kinds q → P q (line q .a)
   use-a q x (i, h, n, f, lo, inl (e, _)) = absurd (true≢false (sym x ∙ rw e refl))
@@ -154,9 +154,9 @@ module _ (w : Working) (start : ℕ → ℕ) (st : Standing w start) where
   over-row : (q v : ℕ) → P (suc q) v → (shape (line q .op) .d ≡ true → v ≡ line q .d → ⊥) → P q v
   over-row q v (inl e) nw = inl e
   over-row q v (inr (i, h, n, f, inl (k, b, dk, lo, hi))) nw = elim (cases-eq (start i + k) q) [
-      inl e ↦ absurd (nw (rw (← e, f .block .loads .load k b) refl) (rw (← e) (sym dk)))
+    | inl e ↦ absurd (nw (rw (← e, f .block .loads .load k b) refl) (rw (← e) (sym dk)))
     | inr e ↦ inr (i, h, n, f, inl (k, b, dk, omega arith, omega arith))
-    ]
+  ]
   over-row q v (inr (i, h, n, f, inr (e, dv, hi, y))) nw =
       let z : q ≡ start i + n = omega arith in
       absurd (nw (rw (z, f .block .op) y) (rw z dv))
@@ -190,10 +190,10 @@ module _ (w : Working) (start : ℕ → ℕ) (st : Standing w start) where
   joined t x lo (q, j, wr, nx, inr e, ne) =
       let (y, z) = one-case (shape (line q .op) .d) (line q .d) t wr in
       elim (two-cases (shape (line q .op) .target) (line q .target) (only (shape (line q .op) .falls) (suc q)) j nx) [
-        inl g ↦ (let (u, h, tz) = st .target q (g .0) in absurd (no-landing u x h (subst (λ (k : ℕ). Inside w start k x) (g .1 ∙ tz) e)))
-      | inr g ↦
-          (let s = one-case (shape (line q .op) .falls) (suc q) j g .1 in
-          subst (λ (k : ℕ). Pair k x) (sym z) (meets q x (λ d. ne (z ∙ d)) (subst (λ (k : ℕ). Inside w start k x) s e)))
+        | inl g ↦ (let (u, h, tz) = st .target q (g .0) in absurd (no-landing u x h (subst (λ (k : ℕ). Inside w start k x) (g .1 ∙ tz) e)))
+        | inr g ↦
+            (let s = one-case (shape (line q .op) .falls) (suc q) j g .1 in
+            subst (λ (k : ℕ). Pair k x) (sym z) (meets q x (λ d. ne (z ∙ d)) (subst (λ (k : ℕ). Inside w start k x) s e)))
       ]
 
   turned : (t x : ℕ) → Pair t x → Pair x t
@@ -223,7 +223,7 @@ module _ (w : Working) (start : ℕ → ℕ) (st : Standing w start) where
     over-loads q zero v ld b l = rw add-zero at l
     over-loads q (suc n) v ld b l =
         over-loads q n v (record { load = λ k h. ld .load k (omega arith); temporary = λ k h. ld .temporary k (omega arith); twice = λ j k h g. ld .twice j k h (omega arith) }) b
-          (lv .below (q + n) v (rw (ld .load n (omega arith)) refl) (rw (← (add-suc q n)) l) (λ _ z. omega (arith, ld .temporary n (omega arith))))
+        (lv .below (q + n) v (rw (ld .load n (omega arith)) refl) (rw (← (add-suc q n)) l) (λ _ z. omega (arith, ld .temporary n (omega arith))))
 
     -- from what follows the block to the row in it
     to-row : (i v n : ℕ) → Fill i n → shape (rowOf src i .op) .falls ≡ true → v < src .vars → (shape (rowOf src i .op) .d ≡ true → v ≡ rowOf src i .d → ⊥) → live (start (suc i)) v ≡ true → live (start i + n) v ≡ true
@@ -232,37 +232,37 @@ module _ (w : Working) (start : ℕ → ℕ) (st : Standing w start) where
         let c : ℕ = start i + n in
         let cf : shape (line c .op) .falls ≡ true = rw (b .op) fl in
         elim (cases-bool (shape (rowOf src i .op) .d)) [
-          inr nw ↦ lv .below c v cf (rw (b .none nw fl) at l) (λ y. absurd (both-ways _ nw (rw (b .op) at y)))
-        | inl yw ↦ elim (b .d yw) [
-            inl r ↦ lv .below c v cf (rw (r .2) at l) (λ _ z. nd yw (z ∙ r .1))
-          | inr r ↦ lv .below c v cf (lv .below (suc c) v (rw (r .3) refl) (rw (r .2) at l) (λ y. absurd (true≢false (sym y ∙ rw (r .3) refl)))) (λ _ z. omega (arith, r .1))
+          | inr nw ↦ lv .below c v cf (rw (b .none nw fl) at l) (λ y. absurd (both-ways _ nw (rw (b .op) at y)))
+          | inl yw ↦ elim (b .d yw) [
+            | inl r ↦ lv .below c v cf (rw (r .2) at l) (λ _ z. nd yw (z ∙ r .1))
+            | inr r ↦ lv .below c v cf (lv .below (suc c) v (rw (r .3) refl) (rw (r .2) at l) (λ y. absurd (true≢false (sym y ∙ rw (r .3) refl)))) (λ _ z. omega (arith, r .1))
           ]
         ]
 
     kept-closed : Closed (rowOf src) Kept
     kept-closed = record {
       reads-a = λ i x b ns. elim (st .stands i (present (λ op. shape op .a) (src .rows) i refl x)) [
-          inl g ↦ absurd (both-ways _ ns (g .a))
+        | inl g ↦ absurd (both-ways _ ns (g .a))
         | inr k ↦ (let n = k .0 in let bl = k .1 .block in elim (bl .a x) [
-            inl o ↦ over-loads (start i) n _ (bl .loads) b (subst (λ v. live (start i + n) v ≡ true) (o .1) (lv .reads-a (start i + n) (rw (bl .op) x)))
+          | inl o ↦ over-loads (start i) n _ (bl .loads) b (subst (λ v. live (start i + n) v ≡ true) (o .1) (lv .reads-a (start i + n) (rw (bl .op) x)))
           | inr o ↦ absurd (both-ways _ ns (o .0))
-          ])
-        ];
+        ])
+      ];
       reads-b = λ i x b ns. elim (st .stands i (present (λ op. shape op .b) (src .rows) i refl x)) [
-          inl g ↦ absurd (true≢false (sym x ∙ rw (is-copy _ (g .copy)) refl))
+        | inl g ↦ absurd (true≢false (sym x ∙ rw (is-copy _ (g .copy)) refl))
         | inr k ↦ (let n = k .0 in let bl = k .1 .block in elim (bl .b x) [
-            inl o ↦ over-loads (start i) n _ (bl .loads) b (subst (λ v. live (start i + n) v ≡ true) (o .1) (lv .reads-b (start i + n) (rw (bl .op) x)))
+          | inl o ↦ over-loads (start i) n _ (bl .loads) b (subst (λ v. live (start i + n) v ≡ true) (o .1) (lv .reads-b (start i + n) (rw (bl .op) x)))
           | inr o ↦ absurd (both-ways _ ns (o .0))
-          ])
-        ];
+        ])
+      ];
       below = λ i v fl pv nd b ns. elim (st .stands i (present (λ op. shape op .falls) (src .rows) i refl fl)) [
-          inl g ↦ rw (← (g .next)) (pv b ns)
+        | inl g ↦ rw (← (g .next)) (pv b ns)
         | inr k ↦ over-loads (start i) (k .0) v (k .1 .block .loads) b (to-row i v (k .0) (k .1) fl b nd (pv b ns))
-        ];
+      ];
       target = λ i v j pv b ns. elim (st .stands i (present (λ op. shape op .target) (src .rows) i refl j)) [
-          inl g ↦ absurd (true≢false (sym j ∙ rw (is-copy _ (g .copy)) refl))
+        | inl g ↦ absurd (true≢false (sym j ∙ rw (is-copy _ (g .copy)) refl))
         | inr k ↦ over-loads (start i) (k .0) v (k .1 .block .loads) b (lv .target (start i + k .0) v (rw (k .1 .block .op) j) (rw (k .1 .block .target j) (pv b ns)))
-        ];
+      ];
     }
 
 pub temporaries-inside : Temporaries-inside
