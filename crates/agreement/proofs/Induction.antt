@@ -41,7 +41,7 @@ pub record Held (w : Working) : Type 0 where
   pub standing : Standing w start
   pub quiet : Quiet w
 
-three-classes : (w : Working) (start : ℕ → ℕ) → Standing w start → ThreeClasses w
+pub three-classes : (w : Working) (start : ℕ → ℕ) → Standing w start → ThreeClasses w
 three-classes w start st v = omega (arith, st .small v)
 
 first-held : (p : Program) → WellFormed p → Held (admitted p)
@@ -59,14 +59,17 @@ next-held m lawful w h =
     }
 
 module _ (files : ℕ → Model) (lawful : (i : ℕ) → Lawful (files i)) (p : Program) (well : WellFormed p) where
-  held : (k : ℕ) → Held (worked files k (admitted p))
+  held-after : (k : ℕ) → Held (worked files k (admitted p))
   unfolding worked
-  held zero = first-held p well
-  held (suc k) = let before = worked files k (admitted p) in next-held (files (suc (before .rounds))) (lawful (suc (before .rounds))) before (held k)
+  held-after zero = first-held p well
+  held-after (suc k) = let before = worked files k (admitted p) in next-held (files (suc (before .rounds))) (lawful (suc (before .rounds))) before (held-after k)
+
+  pub held : (w : Working) → Reached files p w → Held w
+  held w (k, is, _) = subst Held (sym is) (held-after k)
 
   pub upright : Upright files p
-  upright w (k, is, _) =
-      let h = subst Held (sym is) (held k) in
+  upright w r =
+      let h = held w r in
       let start = h .start in
       let st = h .standing in
       let (names, alike) = in-order w start st in (
@@ -104,7 +107,7 @@ agreement files lawful bs c h =
     let well = reads-well bs p (admitted-read bs p read) in
     subst (λ (x : Compiled). Agreeing x (files (x .rounds))) (sym is) (compiled-agrees files lawful bs p read (upright files lawful p well))
 
-emitted-source : (files : ℕ → Model) (w : Working) → emitted w (turn files w) .source ≡ w .source
+pub emitted-source : (files : ℕ → Model) (w : Working) → emitted w (turn files w) .source ≡ w .source
 unfolding emitted
 emitted-source files w = refl
 

@@ -57,7 +57,7 @@ module _ (w : Working) (o : Outcome) where
   abbrev slotted : ℕ → Place
   slotted v = record { home = Slot; number = slotIn (spillOrder w o) v; round = suc (w .rounds); hoped = hopedFor (o .order) (nodeAt (o .graph) v) }
 
-  abbrev kept : ℕ → Place
+  abbrev pub kept : ℕ → Place
   kept v = record { home = Register; number = getD (registersOf o) v 0; round = suc (w .rounds); hoped = hopedFor (o .order) (nodeAt (o .graph) v) }
 
   out-is : (v : ℕ) → out v ≡ (ltb v vars && has (o .spilled) (nodeAt (o .graph) v))
@@ -72,11 +72,11 @@ module _ (w : Working) (o : Outcome) where
   unfolding placesSpilled
   spilled-past v l = getD-past (placesSpilled w o) v noPlace (omega (arith, table-length (λ v. cond (out v) (slotted v) (placeOf (w .places) v)) vars 0))
 
-  coloured-at : (v : ℕ) → v < vars → placeOf (placesColoured w o) v ≡ cond (spilled (w .places) v) (placeOf (w .places) v) (kept v)
+  pub coloured-at : (v : ℕ) → v < vars → placeOf (placesColoured w o) v ≡ cond (spilled (w .places) v) (placeOf (w .places) v) (kept v)
   unfolding placesColoured
   coloured-at v l = let e : 0 + v ≡ v = omega arith in table-at (λ v. cond (spilled (w .places) v) (placeOf (w .places) v) (kept v)) vars 0 v noPlace l ∙ ap (λ (v : ℕ). cond (spilled (w .places) v) (placeOf (w .places) v) (kept v)) e
 
-  coloured-past : (v : ℕ) → vars ≤ v → placeOf (placesColoured w o) v ≡ noPlace
+  pub coloured-past : (v : ℕ) → vars ≤ v → placeOf (placesColoured w o) v ≡ noPlace
   unfolding placesColoured
   coloured-past v l = getD-past (placesColoured w o) v noPlace (omega (arith, table-length (λ v. cond (spilled (w .places) v) (placeOf (w .places) v) (kept v)) vars 0))
 
