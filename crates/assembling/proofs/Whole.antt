@@ -22,7 +22,7 @@ use Rattle.simulation.proofs.Calls.{static-agrees}
 use Rattle.standing.proofs.Sources.{well-formed-sound}
 use Rattle.assembling.specs.Assembling.{InOrder, registerIn}
 use Rattle.assembling.specs.Rounds.{turn, Ends, Reached}
-use Rattle.assembling.specs.Whole.{Admitted-sound, Standing, Upright, Static-met, Compiled-agrees}
+use Rattle.assembling.specs.Whole.{Admitted-sound, Footing, Upright, Static-met, Compiled-agrees}
 use Rattle.assembling.proofs.Lively.{live-lively, admitted-lively}
 use Rattle.assembling.proofs.Apart.{registers-apart}
 use Rattle.assembling.proofs.Rounds.{few-rounds, emitted-rounds}
@@ -36,7 +36,7 @@ admitted-sound bs p h = well-formed-sound p (reads-well bs p (admitted-read bs p
 
 module _ (files : ℕ → Model) (lawful : (i : ℕ) → Lawful (files i)) (bs : List ℕ) (p : Program) (read : admitting bs ≡ Ok p) where
   -- of the code of a working program whose round colours
-  emitted-meets : (w : Working) → w .source ≡ p → InOrder (files (suc (w .rounds))) w → Standing w → colours (turn files w) ≡ true → Static (emitted w (turn files w)) (files (suc (w .rounds)))
+  emitted-meets : (w : Working) → w .source ≡ p → InOrder (files (suc (w .rounds))) w → Footing w → colours (turn files w) ≡ true → Static (emitted w (turn files w)) (files (suc (w .rounds)))
   unfolding emitted
   emitted-meets w is-p ok st done = record {
     last = w;

@@ -21,7 +21,7 @@ abbrev pub Admitted-sound : Type 0
 Admitted-sound = (bs : List ℕ) (p : Program) → admitting bs ≡ Ok p → Sound p
 
 -- the source of a working program stands in its rows, slots are shared harmlessly, targets are rows, and every variable has a place in a set
-pub record Standing (w : Working) : Type 0 where
+pub record Footing (w : Working) : Type 0 where
   pub start : ℕ → ℕ
   pub shares : Shares (w .source) (livesBefore (w .source .rows)) (w .places)
   pub first : start 0 ≡ 0
@@ -31,7 +31,7 @@ pub record Standing (w : Working) : Type 0 where
 
 -- every working program that compiling p comes to is found in order, and its source stands in it
 abbrev pub Upright : (ℕ → Model) → Program → Type 0
-Upright files p = (w : Working) → Reached files p w → InOrder (files (suc (w .rounds))) w × Standing w
+Upright files p = (w : Working) → Reached files p w → InOrder (files (suc (w .rounds))) w × Footing w
 
 -- so an admitted program, compiled, meets the static record of the file of its last round
 abbrev pub Static-met : Type 0

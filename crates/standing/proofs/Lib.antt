@@ -4,6 +4,3 @@ pub mod Round
 pub mod Sources
 pub mod Slots
 pub mod Keeping
-pub mod Temporaries
-pub mod Sameness
-pub mod Reached

@@ -1,3 +1,1 @@
 pub mod Standing
-pub mod Lasting
-pub mod Reaching

@@ -1,6 +1,5 @@
+// How source rows stand in the rows of every working program.
 ghost use Rattle.standing.specs.Standing.{Well-formed-sound, Admitted-stands, Rewritten-stands, Slot-of-node, Standing-stands, Standing-bounded, Jumps-inside};
-ghost use Rattle.standing.specs.Lasting.{Temporaries-inside, One-partner, Source-lives-on, Source-lived};
-ghost use Rattle.standing.specs.Reaching.{Later-stands, Rounds-end};
 
 // The rows of a well-formed program are sound.
 pub fn well_formed_rows_are_sound() -> u8
@@ -47,48 +46,6 @@ pub fn working_programs_are_bounded() -> u8
 // Where source rows stand, jumps go to rows that there are.
 pub fn jumps_stay_inside() -> u8
     ensures { λ _. ⌜ Jumps-inside ⌝ }
-{
-    0
-}
-
-// A temporary is live only inside its block.
-pub fn temporaries_live_inside() -> u8
-    ensures { λ _. ⌜ Temporaries-inside ⌝ }
-{
-    0
-}
-
-// A temporary has at most one temporary beside it.
-pub fn temporaries_have_one_partner() -> u8
-    ensures { λ _. ⌜ One-partner ⌝ }
-{
-    0
-}
-
-// What is live in the source is live in the working rows, where it is not spilled.
-pub fn source_variables_live_on() -> u8
-    ensures { λ _. ⌜ Source-lives-on ⌝ }
-{
-    0
-}
-
-// What is live in the working rows is live in the source, where it is not spilled.
-pub fn source_variables_lived() -> u8
-    ensures { λ _. ⌜ Source-lived ⌝ }
-{
-    0
-}
-
-// After rounds that spill only what they may, source rows stand.
-pub fn rounds_keep_rows_standing() -> u8
-    ensures { λ _. ⌜ Later-stands ⌝ }
-{
-    0
-}
-
-// Rounds end in one that colours, of whose working program the code is made, or all spill.
-pub fn rounds_end() -> u8
-    ensures { λ _. ⌜ Rounds-end ⌝ }
 {
     0
 }
