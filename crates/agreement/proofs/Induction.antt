@@ -1,12 +1,17 @@
 -- Over the rounds: source rows stand in every working program and slots are shared harmlessly, so every round finds its program in order.
 use mathlib.Core.Path.{_≡_, refl, sym, ap, subst, _∙_}
 use mathlib.Core.Bool.{true}
-use mathlib.Core.List.{List}
+use mathlib.Core.Logic.{inl, inr}
+use mathlib.Core.List.{List, [], _∷_, map}
 use Prim.Native.Nat.{ℕ, zero, suc, _<_, _≤_}
 use native.Mathlib.Omega.{arith}
+use lib.ListN.{length, getD}
+use Rattle.std.proofs.shelf.Lists.{length-map}
+use Rattle.std.proofs.shelf.Tests.{cases-bool}
 use Rattle.std.specs.declared.result.Result.{Result}
 use Rattle.std.specs.declared.result.Result.the-variants.{Ok, Err}
 use Rattle.faults.specs.declared.ProgramFault.{ProgramFault}
+use Rattle.rows.specs.declared.Row.{Row}
 use Rattle.rows.specs.Rows.{Program}
 use Rattle.packing.specs.Inverse.{WellFormed}
 use Rattle.packing.proofs.Back.{reads-well}
@@ -14,11 +19,13 @@ use Rattle.admission.specs.Admission.{admitting}
 use Rattle.registers.specs.Model.{Model, Lawful}
 use Rattle.compiling.specs.Working.{Working, Compiled, admitted, roundOf}
 use Rattle.compiling.specs.Rewrite.{rewritten}
-use Rattle.compiling.specs.Emit.{emitted}
+use Rattle.rounds.specs.Round.{Outcome}
+use Rattle.compiling.specs.Blocks.{flat, starts, moved, assembled}
+use Rattle.compiling.specs.Emit.{registersOf, idle, codeBlock, emitted}
 use Rattle.compiling.specs.Compile.{compiledBy, compiling, compileWith}
 use Rattle.machine.specs.Agreement.{Agreement, Agreeing}
 use Rattle.interfering.proofs.Starting.{admitted-read}
-use Rattle.standing.specs.Standing.{Standing, startsAfter}
+use Rattle.standing.specs.Standing.{Standing, Bounded, startsAfter}
 use Rattle.standing.proofs.Sources.{admitted-stands}
 use Rattle.standing.proofs.Keeping.{rewritten-stands, standing-bounded, jumps-inside, standing-stands}
 use Rattle.standing.proofs.Slots.{slot-of-node}
@@ -29,7 +36,7 @@ use Rattle.transfer.proofs.Settling.{rounds-settle}
 use Rattle.transfer.proofs.Spilling.{rounds-spill}
 use Rattle.transfer.proofs.Sharing.{sharing-harmless}
 use Rattle.assembling.specs.Assembling.{InOrder}
-use Rattle.assembling.specs.Rounds.{turn, worked, Ends, Reached}
+use Rattle.assembling.specs.Rounds.{turn, worked, Hoped, Ends, Reached}
 use Rattle.assembling.specs.Whole.{Upright}
 use Rattle.assembling.proofs.Rounds.{few-rounds}
 use Rattle.assembling.proofs.Whole.{compiled-agrees}
@@ -107,16 +114,44 @@ agreement files lawful bs c h =
     let well = reads-well bs p (admitted-read bs p read) in
     subst (λ (x : Compiled). Agreeing x (files (x .rounds))) (sym is) (compiled-agrees files lawful bs p read (upright files lawful p well))
 
-pub emitted-source : (files : ℕ → Model) (w : Working) → emitted w (turn files w) .source ≡ w .source
+-- ---- how long the code is
+
+flat-short : (reg : ℕ → ℕ) (rows : List Row) → length (flat (map (codeBlock reg) rows)) ≤ length rows
+unfolding flat
+flat-short reg [] = omega arith
+flat-short reg (r ∷ rs) =
+    let more = flat-short reg rs in
+    elim (cases-bool (idle reg r)) [
+      | inl e ↦ rw e (omega (arith, more))
+      | inr e ↦ rw e (omega (arith, more))
+    ]
+
+code-short : (reg : ℕ → ℕ) (rows : List Row) → length (assembled (map (codeBlock reg) rows)) ≤ length rows
+unfolding assembled
+code-short reg rows =
+    let bs : List (List Row) = map (codeBlock reg) rows in
+    rw (length-map (flat bs) (moved (starts 0 bs))) (flat-short reg rows)
+
+emitted-prompt : (w : Working) (o : Outcome) → Bounded w → emitted w o .rounds ≤ suc (w .source .vars) → Hoped (emitted w o .places) → Prompt (emitted w o)
 unfolding emitted
-emitted-source files w = refl
+emitted-prompt w o small few hoped =
+    let short = code-short (λ v. getD (registersOf o) v 0) (w .rows) in
+    record {
+      rounds = few;
+      hoped = hoped;
+      rows = omega (arith, short, small .rows);
+      most-rows = omega (arith, short, small .most-rows);
+      slots = small .slots;
+      most-slots = small .most-slots;
+    }
 
 pub promptness : Promptness
 promptness files lawful bs c h =
     let (p, read, is) = admitted-first files bs c h in
-    let e = ends files lawful p (reads-well bs p (admitted-read bs p read)) in
-    let source : compiling files p .source ≡ p = ap (λ (x : Compiled). x .source) (e .code) ∙ (emitted-source files (e .last) ∙ e .source) in
-    subst Prompt (sym is) (record {
-      rounds = subst (λ (q : Program). compiling files p .rounds ≤ suc (q .vars)) (sym source) (e .few);
-      hoped = e .hoped;
-    })
+    let well = reads-well bs p (admitted-read bs p read) in
+    let e = ends files lawful p well in
+    let w = e .last in
+    let all = held files lawful p well w (e .has-P) in
+    subst Prompt (sym (is ∙ e .code)) (emitted-prompt w (turn files w) (standing-bounded w (all .start) (all .standing))
+    (subst (λ (q : Program). emitted w (turn files w) .rounds ≤ suc (q .vars)) (sym (e .source)) (subst (λ (x : Compiled). x .rounds ≤ suc (p .vars)) (e .code) (e .few)))
+    (subst (λ (x : Compiled). Hoped (x .places)) (e .code) (e .hoped)))

@@ -10,7 +10,7 @@ pub fn agreement_holds() -> u8
     0
 }
 
-// It took at most one round more than it has variables, and no variable that passed the test stands in a slot.
+// It took at most one round more than it has variables, no variable that passed the test stands in a slot, and its rows and slots are few.
 pub fn few_rounds_suffice() -> u8
     ensures { λ _. ⌜ Promptness ⌝ }
 {
