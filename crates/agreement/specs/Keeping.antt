@@ -9,10 +9,13 @@ use Rattle.registers.specs.Model.{Model, Lawful}
 use Rattle.compiling.specs.Working.{Compiled, placeOf, spilled}
 use Rattle.compiling.specs.Compile.{compileWith}
 
--- a compiled program took at most one round more than it has variables; what stands in a slot was only hoped to find a register: none that passed the test does; its code has at most four rows for each of the source and 512 in all, and at most as many slots as variables and 64 in all
+-- a compiled program in time, with what passed the test in registers, and short
 pub record Prompt (c : Compiled) : Type 0 where
+  -- one round more than variables suffices
   pub rounds : c .rounds ≤ suc (c .source .vars)
+  -- what stands in a slot was only hoped to find a register
   pub hoped : (v : ℕ) → spilled (c .places) v ≡ true → placeOf (c .places) v .hoped ≡ true
+  -- four rows for each of the source are enough, and as many slots as variables
   pub rows : length (c .rows) ≤ 4 * length (c .source .rows)
   pub most-rows : length (c .rows) ≤ 512
   pub slots : c .slots ≤ c .source .vars
