@@ -1,3 +1,5 @@
+#![tactic(auto)]
+
 // What every program compiled with lawful register files promises.
 ghost use Rattle.machine.specs.Agreement.{Agreement};
 ghost use Rattle.agreement.specs.Keeping.{Promptness};

@@ -1,3 +1,5 @@
+#![tactic(auto)]
+
 ghost use Rattle.std.specs.Prelude.{◌≡◌, ◌≤◌, length, drop};
 ghost use Rattle.admission.specs.Memory.{parts, emptied};
 ghost use Rattle.allocation.specs.Allocation.{ShowsRound, is_short as is_short_of, afterwards};

@@ -1,3 +1,5 @@
+#![tactic(auto)]
+
 ghost use Rattle.std.specs.Prelude.{◌≡◌, [], ◌∷◌, ◌++◌, Some, Err, codes, OnOk};
 ghost use Rattle.faults.specs.declared.ProgramFault.{ProgramFault as AnyFault};
 ghost use Rattle.admission.specs.Admission.{admitting};

@@ -1,3 +1,5 @@
+#![tactic(auto)]
+
 // What a compiled program has for its static record from the rounds.
 ghost use Rattle.assembling.specs.Assembling.{LiveLively, AdmittedLively, RegistersApart};
 ghost use Rattle.assembling.specs.Rounds.{FewRounds};

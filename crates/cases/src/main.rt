@@ -1,3 +1,5 @@
+#![tactic(auto)]
+
 // Answers lines of cases, one line for each.
 use answers::{Memory, answer};
 use stages::Record;

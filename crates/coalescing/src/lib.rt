@@ -1,3 +1,5 @@
+#![tactic(auto)]
+
 pub mod merged;
 
 ghost use Rattle.std.specs.Prelude.{◌≡◌, ℕ, ◌<◌, ◌≤◌, not, ◌&&◌, List, map, take, set, nat_lt, slice_index_or};

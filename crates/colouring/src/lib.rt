@@ -1,3 +1,5 @@
+#![tactic(auto)]
+
 // Colouring: what removal and selection promise, as theorems about the definitions of rounds.
 ghost use Rattle.colouring.specs.Selecting.{TestSuffices, ChoiceFree, TestFinds, NeighboursApart, TestedFind};
 ghost use Rattle.colouring.specs.Removing.{AllRemoved, TemporariesPass};

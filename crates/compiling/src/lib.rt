@@ -1,3 +1,5 @@
+#![tactic(auto)]
+
 // Where a variable stands: nowhere as long as no round has placed it.
 #[derive(Clone, Copy)]
 pub enum Home {

@@ -1,3 +1,5 @@
+#![tactic(auto)]
+
 pub mod draft;
 pub mod token;
 

@@ -1,3 +1,5 @@
+#![tactic(auto)]
+
 ghost use Rattle.std.specs.Prelude.{◌≡◌, ◌<◌, [], ◌∷◌, ◌++◌, map, length, take};
 ghost use Rattle.counting.specs.Counting.{range};
 ghost use Rattle.sets.specs.Sets.{when};

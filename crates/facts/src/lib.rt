@@ -1,3 +1,5 @@
+#![tactic(auto)]
+
 ghost use Rattle.std.specs.Prelude.{◌≡◌, ℕ, ◌<◌, ◌≤◌, true, false, not, [], ◌∷◌, length, take, drop, set, ◌==◌, slice_index, slice_index_or};
 ghost use Rattle.sets.specs.Sets.{has};
 ghost use Rattle.sets.specs.Words.{members, sets_of};

@@ -1,3 +1,5 @@
+#![tactic(auto)]
+
 ghost use Rattle.std.specs.Prelude.{◌≡◌};
 ghost use Rattle.faults.specs.declared.ProgramFault.TheVariants.{Rows};
 ghost use Rattle.faults.specs.declared.RowFault.TheVariants.{Bits};

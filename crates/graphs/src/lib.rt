@@ -1,3 +1,5 @@
+#![tactic(auto)]
+
 pub mod variables;
 
 ghost use Rattle.std.specs.Prelude.{◌≡◌, ℕ, ◌≤◌, min, ◌&&◌, length, take, ◌==◌, nat_lt, slice_index};

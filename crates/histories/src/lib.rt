@@ -1,3 +1,5 @@
+#![tactic(auto)]
+
 // What is true of every program that admit, round, rewrite and emit come to, whichever register file each round was given.
 ghost use Rattle.histories.specs.Histories.{GrownFits, RoundsProgress, HistoriesCompile, FinishedAgrees, FinishedPlays, EndsFirst, HistoriesKnown};
 

@@ -1,3 +1,5 @@
+#![tactic(auto)]
+
 // What is live at each row and which variables are neighbours, as theorems on the definitions of a round.
 ghost use Rattle.interfering.specs.Living.{LivenessByWays, NoneLiveAtStart};
 ghost use Rattle.interfering.specs.Edges.{EdgesByRows, WritingMakesEdges};

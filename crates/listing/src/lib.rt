@@ -1,3 +1,5 @@
+#![tactic(auto)]
+
 ghost use Rattle.std.specs.Prelude.{◌≡◌, T, is_some, IfOk, nat_lt};
 
 use chips::nested::Nested;

@@ -1,3 +1,5 @@
+#![tactic(auto)]
+
 // How a player stands after a play: the rows played, and the outcome.
 #[derive(Clone, Copy)]
 pub struct Played {

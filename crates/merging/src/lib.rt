@@ -1,3 +1,5 @@
+#![tactic(auto)]
+
 // What merging keeps of nodes, classes and edges, as theorems on the definitions of a round.
 ghost use Rattle.merging.specs.Merging.{MergingKeeps, RoundMerges, NoHardEdgeInside, MembersShareAClass, AdmittedInOrder};
 

@@ -1,3 +1,5 @@
+#![tactic(auto)]
+
 ghost use Rattle.std.specs.Prelude.{◌≡◌, ◌+◌, ◌-◌, ◌*◌, ◌^◌, ◌&&◌, IfOk, if◌then◌else◌, Some, None, nat_lt};
 ghost use Rattle.numerals.specs.Numerals.{is_digit, number_in, items_in, numbers_of, is_dash as is_dash_of, numbers_in};
 

@@ -1,3 +1,5 @@
+#![tactic(auto)]
+
 ghost use Rattle.std.specs.Prelude.{◌≡◌};
 ghost use Rattle.machine.specs.Rehearsal.{opened as opened_of};
 ghost use Rattle.players.specs.Playing.{numbers_in};

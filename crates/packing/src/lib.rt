@@ -1,3 +1,5 @@
+#![tactic(auto)]
+
 ghost use Rattle.packing.specs.Inverse.{ForgetsNothing, OneFileOneProgram, PacksBytes, ReadsBack, ReadsWell};
 
 // The program of a file packs to that file.

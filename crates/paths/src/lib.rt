@@ -1,3 +1,5 @@
+#![tactic(auto)]
+
 ghost use Rattle.paths.specs.Paths.{AdmissionByPaths, UnreachedByPaths, UnwrittenByPaths};
 
 // Admission by paths, stated by the contract alone: a file is admitted exactly if it can be read,

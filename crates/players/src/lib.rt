@@ -1,3 +1,5 @@
+#![tactic(auto)]
+
 pub mod playing;
 
 ghost use Rattle.std.specs.Prelude.{◌≡◌, ◌<◌, ◌≤◌, length, take};

@@ -1,3 +1,5 @@
+#![tactic(auto)]
+
 pub mod clashes;
 pub mod runs;
 

@@ -1,3 +1,5 @@
+#![tactic(auto)]
+
 ghost use Rattle.std.specs.Prelude.{◌≡◌, Ok, Err};
 ghost use Rattle.compiling.specs.Working.{Compiled};
 ghost use Rattle.machine.specs.Rehearsal.{opened as opened_of, Restart, PlaySource, PlayCode, Does};

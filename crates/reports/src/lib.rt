@@ -1,3 +1,5 @@
+#![tactic(auto)]
+
 ghost use Rattle.std.specs.Prelude.{◌≡◌};
 ghost use Rattle.faults.specs.Refusals.{program_refusal};
 ghost use Rattle.reports.specs.Names.{class_name as class_name_of, op_name as op_name_of};

@@ -1,3 +1,5 @@
+#![tactic(auto)]
+
 ghost use Rattle.rounds.specs.Liveness.{LiveLeast};
 
 // A node as it was removed: because it passed the test, or in the hope that a register will be free.

@@ -1,3 +1,5 @@
+#![tactic(auto)]
+
 pub mod lines;
 
 ghost use Rattle.std.specs.Prelude.{◌≡◌, ◌≤◌, ltb, length, take, if◌then◌else◌, Some, None, nat_lt};

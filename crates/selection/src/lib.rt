@@ -1,3 +1,5 @@
+#![tactic(auto)]
+
 ghost use Rattle.std.specs.Prelude.{◌≡◌, ℕ, ◌<◌, ◌≤◌, not, ◌&&◌, length, take, if◌then◌else◌, nat_eq, nat_lt};
 ghost use Rattle.counting.specs.Counting.{any, least};
 ghost use Rattle.sets.specs.Sets.{has};

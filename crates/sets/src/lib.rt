@@ -1,3 +1,5 @@
+#![tactic(auto)]
+
 ghost use Rattle.std.specs.Prelude.{◌≡◌, ℕ, ◌<◌, ◌≤◌, min, Bool, true, false, cond, ◌&&◌, length, ◌==◌, nat_le, nat_lt};
 ghost use Rattle.counting.specs.Counting.{least};
 ghost use Rattle.sets.specs.Sets.{has, single as singleOf, union as unionOf, meet as meet_of, minus as minusOf, up_to, when, size as size_of};

@@ -1,3 +1,5 @@
+#![tactic(auto)]
+
 ghost use Rattle.std.specs.Prelude.{◌≡◌, ◌&&◌};
 ghost use Rattle.rows.specs.Rows.{row_at};
 ghost use Rattle.compiling.specs.Working.{is_slot, place_of};

@@ -1,3 +1,5 @@
+#![tactic(auto)]
+
 pub mod removals;
 
 ghost use Rattle.std.specs.Prelude.{◌≡◌, ℕ, ◌+◌, ◌*◌, ◌^◌, ◌<◌, ◌≤◌, Bool, true, false, ◌&&◌, ◌++◌, length, take, slice_index, slice_index_or};

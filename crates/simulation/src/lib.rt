@@ -1,3 +1,5 @@
+#![tactic(auto)]
+
 ghost use Rattle.simulation.specs.Static.{StaticAgrees};
 
 // Code agrees with its source in every rehearsal.

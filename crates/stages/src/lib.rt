@@ -1,3 +1,5 @@
+#![tactic(auto)]
+
 pub mod report;
 pub mod states;
 

@@ -1,3 +1,5 @@
+#![tactic(auto)]
+
 // How source rows stand in the rows of every working program.
 ghost use Rattle.standing.specs.Standing.{WellFormedSound, AdmittedStands, RewrittenStands, SlotOfNode, StandingStands, StandingBounded, JumpsInside};
 

@@ -1,3 +1,5 @@
+#![tactic(auto)]
+
 // What is live and which variables are neighbours in a working program, held against its source.
 ghost use Rattle.transfer.specs.Inside.{TemporariesInside};
 ghost use Rattle.transfer.specs.Paired.{StandingInOrder, NeighboursCouple, TemporariesPaired};

@@ -1,3 +1,5 @@
+#![tactic(auto)]
+
 // Admits and compiles source files and lists chips, for people.
 use answers::{Chip, Memory, chip_name, chip_named, compile_for};
 use listing::chip_listing;

@@ -1,3 +1,5 @@
+#![tactic(auto)]
+
 ghost use Rattle.chips.specs.NestedChip.{nested_file, nested_low};
 ghost use Rattle.chips.specs.PairedChip.{paired_file, paired_low};
 ghost use Rattle.machine.specs.OnBits.{Allowed};
