@@ -8,12 +8,12 @@ use Rattle.answers.proofs.answer_compile.Goals as goal
 
 pub returns-in-Ok : goal.returns-in-Ok
 returns-in-Ok c =
-    compile_line_lem c.write-code.result c.args.word.now c.args.chip c.chip-digit.result (compile (chip_file c.args.chip) c.args.file.now) _ (vec_items c.args.out.now) _ c.in-ok-extend-from-slice.ensures.items c.in-ok-extend-from-slice-2.ensures.items c.chip-digit.ensures
+    compile_line_lem c.write_code.result c.args.word.now c.args.chip c.chip_digit.result (compile (chip_file c.args.chip) c.args.file.now) _ (vec_items c.args.out.now) _ c.in_ok-extend_from_slice.ensures.items c.in_ok-extend_from_slice-2.ensures.items c.chip_digit.ensures
     (ap compile_text (sym c.in-Ok.ensures.compiled))
-    c.write-code.ensures
+    c.write_code.ensures
 
 pub returns-in-Err : goal.returns-in-Err
 returns-in-Err c =
-    compile_line_lem c.write-verdict.result c.args.word.now c.args.chip c.chip-digit.result (compile (chip_file c.args.chip) c.args.file.now) _ (vec_items c.args.out.now) _ c.in-ok-extend-from-slice.ensures.items c.in-ok-extend-from-slice-2.ensures.items c.chip-digit.ensures
+    compile_line_lem c.write_verdict.result c.args.word.now c.args.chip c.chip_digit.result (compile (chip_file c.args.chip) c.args.file.now) _ (vec_items c.args.out.now) _ c.in_ok-extend_from_slice.ensures.items c.in_ok-extend_from_slice-2.ensures.items c.chip_digit.ensures
     (ap compile_text (sym c.in-Err.ensures.compiled) ∙ ap (λ (r : Refusal). verdict_text (Refused r)) (sym c.refusal.ensures))
-    c.write-verdict.ensures
+    c.write_verdict.ensures

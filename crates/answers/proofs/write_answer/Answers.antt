@@ -4,4 +4,4 @@ use Rattle.answers.proofs.write_answer.Goals as goal
 
 pub returns : goal.returns
 returns c =
-    behind c.write-verdict.result (vec_items c.args.out.now) _ _ c.args.word.now _ c.write-verdict.ensures c.in-ok-extend-from-slice.ensures.items
+    behind c.write_verdict.result (vec_items c.args.out.now) _ _ c.args.word.now _ c.write_verdict.ensures c.in_ok-extend_from_slice.ensures.items

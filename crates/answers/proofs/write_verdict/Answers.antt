@@ -5,5 +5,5 @@ use Rattle.answers.proofs.write_verdict.Goals as goal
 
 pub returns : goal.returns
 returns c =
-    let text : string_bytes c.in-ok-tail.tail ≡ codes " " ++ (verdict_text c.args.verdict ++ 10 ∷ []) = c.in-ok-tail.ensures.ok in
-    added c.extend-from-slice.result (vec_items c.args.out.now) _ _ _ c.extend-from-slice.ensures.items (c.as-bytes.ensures.value ∙ text)
+    let text : string_bytes c.in_ok-tail.tail ≡ codes " " ++ (verdict_text c.args.verdict ++ 10 ∷ []) = c.in_ok-tail.ensures.ok in
+    added c.extend_from_slice.result (vec_items c.args.out.now) _ _ _ c.extend_from_slice.ensures.items (c.as_bytes.ensures.value ∙ text)

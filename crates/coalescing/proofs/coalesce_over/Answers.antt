@@ -25,7 +25,7 @@ returns-then-i-copies g c =
     let j = v.source - (c.loop-k.k + 1) in
     let here = graph_of v c.loop-k.merged c.loop-k.edges c.loop-k.hard in
     let e : suc j ≡ v.source - c.loop-k.k = omega arith in
-    sym (coalesced_stop m cs j c.first-mergeable-i.result here c.first-mergeable-i.ensures c.if-i-copies.true)
+    sym (coalesced_stop m cs j c.first_mergeable-i.result here c.first_mergeable-i.ensures c.if-i-copies.true)
     ∙ ap (λ (n : ℕ). coalesced m cs n here) e
     ∙ c.loop-k.invariant
     ∙ ap (coalesced m cs v.source) (start v c.unmerged-merged.result c.args.nodes c.args.edges.now c.args.hard.now c.unmerged-merged.ensures)
@@ -39,7 +39,7 @@ loop-k-preserved g c =
     let here = graph_of v c.loop-k.merged c.loop-k.edges c.loop-k.hard in
     let e : suc j ≡ v.source - c.loop-k.k = omega arith in
     ap (coalesced m cs j) c.merge-merged.ensures
-    ∙ sym (coalesced_step m cs j c.first-mergeable-i.result here c.first-mergeable-i.ensures c.if-i-copies.false)
+    ∙ sym (coalesced_step m cs j c.first_mergeable-i.result here c.first_mergeable-i.ensures c.if-i-copies.false)
     ∙ ap (λ (n : ℕ). coalesced m cs n here) e
     ∙ c.loop-k.invariant
 

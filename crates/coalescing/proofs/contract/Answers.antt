@@ -14,15 +14,15 @@ loop-i-preserved c =
     let f = renamed c.args.low c.args.high in
     let here : i < length es = omega arith in
     let l : i < length was = omega (arith, length-map c.args.edges.now members) in
-    let e : members c.renamed-in.result ≡ f (get_or was i 0) = c.renamed-in.ensures ∙ ap f (sym (get_or-map members es i no_set 0 here) ∙ ap (λ (xs : List ℕ). get_or xs i 0) c.loop-i.invariant ∙ mapped_at f was i 0 l) in
-    map-set members es i c.renamed-in.result
-    ∙ ap (λ (xs : List ℕ). set xs i (members c.renamed-in.result)) c.loop-i.invariant
+    let e : members c.renamed_in.result ≡ f (get_or was i 0) = c.renamed_in.ensures ∙ ap f (sym (get_or-map members es i no_set 0 here) ∙ ap (λ (xs : List ℕ). get_or xs i 0) c.loop-i.invariant ∙ mapped_at f was i 0 l) in
+    map-set members es i c.renamed_in.result
+    ∙ ap (λ (xs : List ℕ). set xs i (members c.renamed_in.result)) c.loop-i.invariant
     ∙ ap (set (mapped f i was) i) e
     ∙ mapped_more f was i 0 l
 
 pub returns : goal.returns
 returns c =
     let es = c.args.edges.now in
-    contracted_from c.args.low c.args.high (sets_of es) (sets_of c.loop-i.edges) (sets_of c.put.new.sets) (sets_of c.put-2.new.sets) (members c.beside-both-both.result) (members c.empty.result)
+    contracted_from c.args.low c.args.high (sets_of es) (sets_of c.loop-i.edges) (sets_of c.put.new.sets) (sets_of c.put-2.new.sets) (members c.beside_both-both.result) (members c.empty.result)
     (c.loop-i.invariant ∙ mapped_all (renamed c.args.low c.args.high) (sets_of es) c.loop-i.i (omega (arith, length-map es members)))
-    c.beside-both-both.ensures c.put.ensures (ap members c.empty.ensures ∙ empty_none) c.put-2.ensures
+    c.beside_both-both.ensures c.put.ensures (ap members c.empty.ensures ∙ empty_none) c.put-2.ensures

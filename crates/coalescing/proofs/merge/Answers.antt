@@ -15,9 +15,9 @@ invariant-of-result c =
     let ns = c.args.merged.now.node in
     let low = c.min-low.result in
     let high = c.max-high.result in
-    let x : c.node-of-x.result < 448 = c.node-of-x.ensures.placed c.requires.0 in
+    let x : c.node_of-x.result < 448 = c.node_of-x.ensures.placed c.requires.0 in
     let l : low < 448 = omega (arith, c.min-low.ensures) in
-    (ap length c.renamed-nodes.ensures ∙ length-map ns (moved low high) ∙ c.args.merged.now.whole, (subst Placed (sym c.renamed-nodes.ensures) (placed_moved low high ns l c.args.merged.now.placed), tt))
+    (ap length c.renamed_nodes.ensures ∙ length-map ns (moved low high) ∙ c.args.merged.now.whole, (subst Placed (sym c.renamed_nodes.ensures) (placed_moved low high ns l c.args.merged.now.placed), tt))
 
 pub returns : goal.returns
 returns c =
@@ -27,12 +27,12 @@ returns c =
     let a = node_at g c.args.copy.a in
     let low = c.min-low.result in
     let high = c.max-high.result in
-    let x : c.node-of-x.result < 448 = c.node-of-x.ensures.placed c.requires.0 in
-    let y : c.node-of-y.result < 448 = c.node-of-y.ensures.placed c.requires.1 in
+    let x : c.node_of-x.result < 448 = c.node_of-x.ensures.placed c.requires.0 in
+    let y : c.node_of-y.result < 448 = c.node_of-y.ensures.placed c.requires.1 in
     let h : high < 448 = omega (arith, c.max-high.ensures) in
-    let low_is : low ≡ min d a = omega (arith, c.min-low.ensures, c.node-of-x.ensures.exact, c.node-of-y.ensures.exact) in
-    let high_is : high ≡ max d a = omega (arith, c.max-high.ensures, c.node-of-x.ensures.exact, c.node-of-y.ensures.exact) in
-    merged_from g d a low high (take v.count c.renamed-nodes.result) (members c.without.result) (sets_of c.contract.new.edges) (sets_of c.contract-2.new.edges) low_is high_is
-    (ap (take v.count) c.renamed-nodes.ensures ∙ take-map (moved low high) v.count c.args.merged.now.node)
+    let low_is : low ≡ min d a = omega (arith, c.min-low.ensures, c.node_of-x.ensures.exact, c.node_of-y.ensures.exact) in
+    let high_is : high ≡ max d a = omega (arith, c.max-high.ensures, c.node_of-x.ensures.exact, c.node_of-y.ensures.exact) in
+    merged_from g d a low high (take v.count c.renamed_nodes.result) (members c.without.result) (sets_of c.contract.new.edges) (sets_of c.contract-2.new.edges) low_is high_is
+    (ap (take v.count) c.renamed_nodes.ensures ∙ take-map (moved low high) v.count c.args.merged.now.node)
     (c.without.ensures ∙ ap (λ (b : Bool). minus (members c.args.merged.now.nodes) (when b (single high))) (lt-ltb high 448 h))
     c.contract.ensures c.contract-2.ensures

@@ -31,6 +31,6 @@ returns g c = λ node nodes.
     let free : has (beside (sets_of c.args.hard.now) x) y ≡ false = ap (λ (z : ℕ). has z y) (sym c.beside.ensures) ∙ sym c.if-contains.ensures in
     let edges : h.edges ≡ contracted c.min-low.result c.max-high.result (sets_of c.args.edges.now) = rw (low, high) (merged_edges x y was) in
     c.passes.ensures h (merged_classes x y was)
-    ∙ ap (λ (t : ℕ → Bool). passes m h c.min-low.result t) (fun_ext (c.heavy-beside.ensures h (merged_classes x y was) edges))
+    ∙ ap (λ (t : ℕ → Bool). passes m h c.min-low.result t) (fun_ext (c.heavy_beside.ensures h (merged_classes x y was) edges))
     ∙ ap (λ (v : ℕ). passes m h v (heavy m h v)) low
     ∙ sym (if_light m was x y c.if-x-y.false free)

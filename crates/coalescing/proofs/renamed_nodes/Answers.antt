@@ -12,8 +12,8 @@ loop-i-preserved c =
     let i = c.loop-i.i in
     let f = moved c.args.low c.args.high in
     let l : i < length ns = omega arith in
-    let e : c.moved-to.result ≡ f (get_or ns i 0) = c.moved-to.ensures ∙ ap f (ap (λ (xs : List ℕ). get_or xs i 0) c.loop-i.invariant ∙ mapped_at f ns i 0 l) in
-    ap (λ (xs : List ℕ). set xs i c.moved-to.result) c.loop-i.invariant ∙ ap (set (mapped f i ns) i) e ∙ mapped_more f ns i 0 l
+    let e : c.moved_to.result ≡ f (get_or ns i 0) = c.moved_to.ensures ∙ ap f (ap (λ (xs : List ℕ). get_or xs i 0) c.loop-i.invariant ∙ mapped_at f ns i 0 l) in
+    ap (λ (xs : List ℕ). set xs i c.moved_to.result) c.loop-i.invariant ∙ ap (set (mapped f i ns) i) e ∙ mapped_more f ns i 0 l
 
 pub returns : goal.returns
 returns c = c.loop-i.invariant ∙ mapped_all (moved c.args.low c.args.high) c.args.node c.loop-i.i (omega arith)

@@ -14,8 +14,8 @@ pub loop-i-preserved : goal.loop-i-preserved
 loop-i-preserved c =
     let d = c.args.draft.now in
     let l = c.loop-i.code in
-    let l' = c.lay-block.new.code in
+    let l' = c.lay_block.new.code in
     let f = code_block (register_in d) in
     let i = c.loop-i.i in
     let more = map_more f d.rows i end_row (omega (arith, d.few, d.whole)) in
-    rw more (holds_more (rows_in l) (rows_in l') (starts_in l) (starts_in l') (map f (take i d.rows)) (f (get_or d.rows i end_row)) c.loop-i.invariant c.lay-block.ensures.starts c.lay-block.ensures.rows)
+    rw more (holds_more (rows_in l) (rows_in l') (starts_in l) (starts_in l') (map f (take i d.rows)) (f (get_or d.rows i end_row)) c.loop-i.invariant c.lay_block.ensures.starts c.lay_block.ensures.rows)

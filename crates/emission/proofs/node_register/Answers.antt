@@ -3,4 +3,4 @@ use Rattle.emission.proofs.node_register.Goals as goal
 
 pub returns : goal.returns
 unfolding node_register
-returns c = c.front-at.ensures
+returns c = c.front_at.ensures

@@ -4,15 +4,15 @@ use Rattle.compiling.specs.Working.{no_place}
 use Rattle.emission.specs.Emission.{place_after}
 use Rattle.emission.proofs.place_of.Goals as goal
 
-pub returns-then-is-spilled : goal.returns-then-is-spilled
+pub returns-then-is_spilled : goal.returns-then-is_spilled
 unfolding place_after
-returns-then-is-spilled c =
+returns-then-is_spilled c =
     let d = c.args.draft.now in
-    let t = c.if-is-spilled.ensures in
+    let t = c.if-is_spilled.ensures in
     rw (sym t) (sym (get_or-take d.source.vars d.places c.args.v no_place c.requires))
 
 pub returns : goal.returns
 unfolding place_after
 returns c =
-    let t = c.if-is-spilled.ensures in
-    rw (sym t, c.front-at.ensures, c.contains.ensures, c.node-of.ensures)
+    let t = c.if-is_spilled.ensures in
+    rw (sym t, c.front_at.ensures, c.contains.ensures, c.node_of.ensures)

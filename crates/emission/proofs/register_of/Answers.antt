@@ -3,4 +3,4 @@ use Rattle.emission.proofs.register_of.Goals as goal
 
 pub returns : goal.returns
 unfolding register_in
-returns c = c.front-at.ensures
+returns c = c.front_at.ensures

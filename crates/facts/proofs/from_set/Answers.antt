@@ -18,7 +18,7 @@ loop-j-preserved g c =
     let t = has (members c.args.set) in
     let j = c.loop-j.j in
     let kept = at f (sets_of c.args.facts.now) in
-    let x : members c.join-all.result ≡ f.join (members c.loop-j.all) (kept j) = c.join-all.ensures ∙ ap (f.join (members c.loop-j.all)) c.fact-at-x.ensures in
+    let x : members c.join-all.result ≡ f.join (members c.loop-j.all) (kept j) = c.join-all.ensures ∙ ap (f.join (members c.loop-j.all)) c.fact_at-x.ensures in
     let n = passing_next t 448 (j + 1) c.next-j-in-loop-j.result (omega arith) c.next-j-in-loop-j.ensures in (
       walk_more f.join kept t 448 (members c.loop-j.all) (members c.join-all.result) j c.next-j-in-loop-j.result (omega arith) (c.loop-j.invariant.1 (omega arith)) x c.next-j-in-loop-j.ensures
           ∙ c.loop-j.invariant.0,

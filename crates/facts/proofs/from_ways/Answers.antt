@@ -12,7 +12,7 @@ loop-k-preserved g c =
     let k = c.loop-k.k in
     let kept = at f (sets_of c.args.facts.now) in
     let x : members c.join-all.result ≡ f.join (members c.loop-k.all) (kept (get_or js k 0)) =
-    c.join-all.ensures ∙ ap (f.join (members c.loop-k.all)) (c.fact-at-handed.ensures ∙ ap kept c.way-j.ensures) in
+    c.join-all.ensures ∙ ap (f.join (members c.loop-k.all)) (c.fact_at-handed.ensures ∙ ap kept c.way-j.ensures) in
     let lt : k < length js = omega arith in
     ap (λ (y : ℕ). gather f.join kept y (drop (k + 1) js)) x ∙ sym (gather_more f.join kept (members c.loop-k.all) js k lt) ∙ c.loop-k.invariant
 

@@ -14,7 +14,7 @@ returns-then-backward g c = λ told.
     let i = c.args.i in
     let held : take c.min.result facts ≡ take (rows f) facts =
     ap (λ (m : ℕ). take m facts) (c.min.ensures ∙ ap (λ (n : ℕ). min n (length facts)) c.rows-n.ensures) ∙ take_short (rows f) facts in
-    c.from-ways.ensures ∙ ap (λ (xs : List NodeSet). gather f.join (at f (sets_of xs)) (enters f i) (get_or f.next i [])) held
+    c.from_ways.ensures ∙ ap (λ (xs : List NodeSet). gather f.join (at f (sets_of xs)) (enters f i) (get_or f.next i [])) held
     ∙ incoming_backward f (at f (sets_of (take (rows f) facts))) i (sym c.if-backward.ensures)
 
 pub returns : goal.returns
@@ -27,7 +27,7 @@ returns g c = λ told.
     ap (λ (m : ℕ). take m facts) (c.min.ensures ∙ ap (λ (n : ℕ). min n (length facts)) c.rows-n.ensures) ∙ take_short (rows f) facts in
     let listed : take c.min-2.result comers ≡ take (rows f) comers =
     ap (λ (m : ℕ). take m comers) (c.min-2.ensures ∙ ap (λ (n : ℕ). min n (length comers)) c.rows-n.ensures) ∙ take_short (rows f) comers in
-    let set : members c.set-at-set.result ≡ get_or (sets_of (take (rows f) comers)) i 0 = c.set-at-set.ensures ∙ ap (λ (xs : List NodeSet). get_or (sets_of xs) i 0) listed in
+    let set : members c.set_at-set.result ≡ get_or (sets_of (take (rows f) comers)) i 0 = c.set_at-set.ensures ∙ ap (λ (xs : List NodeSet). get_or (sets_of xs) i 0) listed in
     let kept = at f (sets_of (take (rows f) facts)) in
-    c.from-set.ensures ∙ ap (λ (xs : List NodeSet). gather f.join (at f (sets_of xs)) (enters f i) (passing (has (members c.set-at-set.result)) 448 0)) held
+    c.from_set.ensures ∙ ap (λ (xs : List NodeSet). gather f.join (at f (sets_of xs)) (enters f i) (passing (has (members c.set_at-set.result)) 448 0)) held
     ∙ ap (λ (x : ℕ). gather f.join kept (enters f i) (passing (has x) 448 0)) set ∙ incoming_told f kept comers i (sym c.if-backward.ensures) told

@@ -9,7 +9,7 @@ loop-j-init g c =
 
 pub loop-j-preserved : goal.loop-j-preserved
 loop-j-preserved g c =
-    partly_more (g.K.FactKind.flow c.args.kind.now).next c.loop-j.j c.loop-j.sets c.list-ways.new.sets (omega arith) c.loop-j.invariant c.list-ways.ensures
+    partly_more (g.K.FactKind.flow c.args.kind.now).next c.loop-j.j c.loop-j.sets c.list_ways.new.sets (omega arith) c.loop-j.invariant c.list_ways.ensures
 
 pub returns : goal.returns
 returns g c =

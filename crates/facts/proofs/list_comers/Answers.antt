@@ -10,13 +10,13 @@ pub returns : goal.returns
 returns g c =
     let f = g.K.FactKind.flow c.args.kind.now in
     let comers = c.args.comers.now in
-    let part = c.list-all.new.sets in
+    let part = c.list_all.new.sets in
     let rest = drop c.rows-n.result comers in
     let forward : f.backward ≡ false = sym c.if-backward.ensures in
     let room = (suffices_parts f (rows f) (length comers) c.requires).1 forward in
-    let long : length part ≡ rows f = sym (length-map part members) ∙ ap length c.list-all.ensures ∙ comer_sets_length f.next in
+    let long : length part ≡ rows f = sym (length-map part members) ∙ ap length c.list_all.ensures ∙ comer_sets_length f.next in
     record {
-      tells = λ _. (room.1, ap sets_of (take_at part rest (rows f) long) ∙ c.list-all.ensures);
+      tells = λ _. (room.1, ap sets_of (take_at part rest (rows f) long) ∙ c.list_all.ensures);
       unlent = λ b. absurd (both_ways f.backward forward b);
       untouched = drop_at part rest (rows f) long ∙ ap (λ (n : ℕ). drop n comers) c.rows-n.ensures;
     }

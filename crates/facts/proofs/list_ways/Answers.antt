@@ -10,8 +10,8 @@ pub loop-k-preserved : goal.loop-k-preserved
 loop-k-preserved g c =
     let ws = get_or (g.K.FactKind.flow c.args.kind.now).next c.args.j [] in
     let lt : c.loop-k.k < length ws = omega arith in
-    listing_more c.args.sets.now c.loop-k.sets c.list-one.new.sets c.args.j ws c.loop-k.k lt (omega arith) c.loop-k.invariant
-    (rw c.way-i.ensures at c.list-one.ensures)
+    listing_more c.args.sets.now c.loop-k.sets c.list_one.new.sets c.args.j ws c.loop-k.k lt (omega arith) c.loop-k.invariant
+    (rw c.way-i.ensures at c.list_one.ensures)
 
 pub returns : goal.returns
 returns g c =

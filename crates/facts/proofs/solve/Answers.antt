@@ -15,13 +15,13 @@ returns g c =
     let long : length part ≡ rows f = sym (length-map part members) ∙ ap length c.settle.ensures ∙ solved_length f in
     let is : sets_of (take (rows f) (part ++ rest)) ≡ solved f = ap sets_of (take_at part rest (rows f) long) ∙ c.settle.ensures in
     record {
-      room = c.if-not-memory-suffices.ensures;
+      room = c.if-not-memory_suffices.ensures;
       answer = record {
         facts = is;
         past = drop_at part rest (rows f) long ∙ ap (λ (n : ℕ). drop n facts) c.rows-n.ensures;
         least = subst (λ (xs : List ℕ). Least f (at f xs)) (sym is) (solved_least f (g.K.FactKind.lawful k));
-        tells = c.list-comers.ensures.tells;
-        unlent = c.list-comers.ensures.unlent;
-        untouched = c.list-comers.ensures.untouched;
+        tells = c.list_comers.ensures.tells;
+        unlent = c.list_comers.ensures.unlent;
+        untouched = c.list_comers.ensures.untouched;
       };
     }

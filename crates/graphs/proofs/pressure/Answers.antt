@@ -12,8 +12,8 @@ pub loop-c-init : goal.loop-c-init
 loop-c-init g c =
     sym (pressed_none (g.F.RegisterFile.model c.args.file.now) c.args.variables.now.classes c.args.variables.now.count c.class-b.result (has (members c.args.by)))
 
-pub overflow-mul-total : goal.overflow-mul-total
-overflow-mul-total g c =
+pub overflow_mul-total : goal.overflow_mul-total
+overflow_mul-total g c =
     let few = size_capped 448 (members c.meet.result) in
     omega (arith, mul-le c.q.result c.len-near.result 255 448 (omega arith) (omega (arith, few, c.len-near.ensures)))
 
@@ -27,8 +27,8 @@ loop-c-preserved g c =
     let more = pressed_more m vs.classes vs.count c.class-b.result (has (members c.args.by)) j c.len-near.result near in
     rw (c.q.ensures, c.loop-c.invariant) (sym more)
 
-pub overflow-add-total : goal.overflow-add-total
-overflow-add-total g c =
+pub overflow_add-total : goal.overflow_add-total
+overflow_add-total g c =
     omega (
       arith,
       loop-c-preserved g c,

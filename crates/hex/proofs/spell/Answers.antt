@@ -9,7 +9,7 @@ loop-i-init c =
     let items : vec_items c.reserve.new.self ≡ [] = c.reserve.ensures.items ∙ c.clear.ensures.items in (
       ap (λ (xs : List ℕ). onto xs (spelled c.args.digits.now)) items ∙ onto_none (spelled c.args.digits.now),
       c.reserve.ensures.len ∙ c.clear.ensures.len,
-      omega (arith, c.in-ok-reserve.ensures.ok, c.reserve.ensures.len, c.clear.ensures.len),
+      omega (arith, c.in_ok-reserve.ensures.ok, c.reserve.ensures.len, c.clear.ensures.len),
     )
 
 pub loop-i-preserved : goal.loop-i-preserved
@@ -19,10 +19,10 @@ loop-i-preserved c =
     let xs = vec_items c.loop-i.file in
     let inside : 2 * i + 1 < length ds = omega (arith, c.loop-i-test.true) in
     let on : 2 * i + 1 + 1 ≡ 2 * (i + 1) = omega arith in (
-      (λ k. onto (c.push-reserved.ensures.items k) (spelled (drop (sym on k) ds)))
+      (λ k. onto (c.push_reserved.ensures.items k) (spelled (drop (sym on k) ds)))
           ∙ (sym (spelled_more ds xs (2 * i) c.in-Some.byte inside (sym c.in-Some.ensures)) ∙ c.loop-i.invariant.0),
-      omega (arith, c.push-reserved.ensures.len, c.loop-i.invariant.1),
-      omega (arith, c.push-reserved.ensures.capacity, c.loop-i.invariant.2),
+      omega (arith, c.push_reserved.ensures.len, c.loop-i.invariant.1),
+      omega (arith, c.push_reserved.ensures.capacity, c.loop-i.invariant.2),
     )
 
 pub returns-in-default : goal.returns-in-default

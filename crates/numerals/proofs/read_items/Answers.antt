@@ -36,7 +36,7 @@ loop-i-preserved c =
     let rest = items_in (drop (i + 1) w) in
     let comma = eq-eqb _ 44 c.if-word-i-ne44.false in (
       omega arith,
-      ap (λ (ys : List ℕ). all_numbers ys (glued (part w (i + 1) (i + 1)) rest)) c.in-ok-push.ensures.items
+      ap (λ (ys : List ℕ). all_numbers ys (glued (part w (i + 1) (i + 1)) rest)) c.in_ok-push.ensures.items
           ∙ (ap (all_numbers (xs ++ n ∷ [])) (part_none w (i + 1) rest)
           ∙ (sym (ap (all_numbers xs) (item_comma w s i c.loop-i-test.true comma) ∙ numbers_more xs (part w s i) rest n (sym c.in-Some.ensures))
           ∙ c.loop-i.invariant.1)),
@@ -66,4 +66,4 @@ returns c =
     sym c.loop-i.invariant.1
     ∙ (ap (all_numbers xs) (ends w s c.loop-i.i c.loop-i-test.false c.loop-i.auto.i-end)
     ∙ (numbers_more xs (part w s (length w)) [] n (sym c.in-Some-number.ensures)
-    ∙ (numbers_end (xs ++ n ∷ []) ∙ ap (λ (ys : List ℕ). Some ys) (sym c.in-ok-push-2.ensures.items))))
+    ∙ (numbers_end (xs ++ n ∷ []) ∙ ap (λ (ys : List ℕ). Some ys) (sym c.in_ok-push-2.ensures.items))))

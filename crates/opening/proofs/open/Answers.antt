@@ -5,11 +5,11 @@ use Rattle.opening.proofs.open.Goals as goal
 
 pub invariant-of-source : goal.invariant-of-source
 invariant-of-source g c =
-    let t = subst SourceRows (sym c.source-rows.ensures) (source_rows_lem _ c.args.program.now.playable) in
+    let t = subst SourceRows (sym c.source_rows.ensures) (source_rows_lem _ c.args.program.now.playable) in
     (t.0, (t.1, (t.2, (t.3, tt))))
 
 pub invariant-of-source-2 : goal.invariant-of-source-2
-invariant-of-source-2 g c = ((subst SourceRows (sym c.source-rows.ensures) (source_rows_lem _ c.args.program.now.playable)).4, tt)
+invariant-of-source-2 g c = ((subst SourceRows (sym c.source_rows.ensures) (source_rows_lem _ c.args.program.now.playable)).4, tt)
 
 pub invariant-of-code : goal.invariant-of-code
 invariant-of-code g c =
@@ -19,5 +19,5 @@ invariant-of-code g c =
 pub returns : goal.returns
 returns g c =
     let program = compiled_in c.args.program.now.record.now in
-    let opens = c.on.ensures.opens program (sym c.source-rows.ensures) (sym c.code.ensures) in
+    let opens = c.on.ensures.opens program (sym c.source_rows.ensures) (sym c.code.ensures) in
     record { file = c.on.ensures.file; opens = opens; agreement = promise program _ _ _ _ opens }

@@ -7,15 +7,15 @@ use Rattle.printing.proofs.write_compiled.Goals as goal
 pub returns : goal.returns
 unfolding compiled_text
 returns c =
-    IfOk-weaker c.write-rows.result _ _
+    IfOk-weaker c.write_rows.result _ _
     (λ u e.
     eight (vec_items c.args.out.now) (codes "compiled rounds=") (decimal c.args.rounds) (codes " slots=") (decimal c.args.slots) (codes " vars=") (places_text c.args.places.now) (codes " code=") (rows_text c.args.rows.now)
-    c.in-ok-extend-from-slice.ensures.items
-    c.in-ok-write-number.ensures
-    c.in-ok-extend-from-slice-2.ensures.items
-    c.in-ok-write-number-2.ensures
-    c.in-ok-extend-from-slice-3.ensures.items
-    c.in-ok-write-places.ensures
-    c.in-ok-extend-from-slice-4.ensures.items
+    c.in_ok-extend_from_slice.ensures.items
+    c.in_ok-write_number.ensures
+    c.in_ok-extend_from_slice-2.ensures.items
+    c.in_ok-write_number-2.ensures
+    c.in_ok-extend_from_slice-3.ensures.items
+    c.in_ok-write_places.ensures
+    c.in_ok-extend_from_slice-4.ensures.items
     e)
-    c.write-rows.ensures
+    c.write_rows.ensures

@@ -2,10 +2,10 @@ use Rattle.std.proofs.Common.{sym}
 use Rattle.rewriting.specs.Pages.{order_in}
 use Rattle.rewriting.proofs.share_slot.Goals as goal
 
-pub returns-then-go-out : goal.returns-then-go-out
+pub returns-then-go_out : goal.returns-then-go_out
 unfolding order_in
-returns-then-go-out c = rw (sym c.if-go-out.ensures, c.slot-of.ensures, c.slot-of-then-go-out.ensures)
+returns-then-go_out c = rw (sym c.if-go_out.ensures, c.slot_of.ensures, c.slot_of-then-go_out.ensures)
 
-pub returns-else-go-out : goal.returns-else-go-out
+pub returns-else-go_out : goal.returns-else-go_out
 unfolding order_in
-returns-else-go-out c = rw (sym c.if-go-out.ensures) c.if-go-out.false
+returns-else-go_out c = rw (sym c.if-go_out.ensures) c.if-go_out.false

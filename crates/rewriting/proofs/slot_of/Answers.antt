@@ -3,4 +3,4 @@ use Rattle.rewriting.proofs.slot_of.Goals as goal
 
 pub returns : goal.returns
 unfolding order_in
-returns c = c.front-at.ensures
+returns c = c.front_at.ensures

@@ -13,4 +13,4 @@ loop-v-preserved c =
     let d = c.args.draft.now in
     let end = c.args.end.now in
     let f : ℕ → ℕ = λ v. slot_below d end (node_in d end v) in
-    (filled_more f c.loop-v.slots c.loop-v.v c.slot-below.result (omega (arith, d.source.few)) c.loop-v.invariant.0 (c.slot-below.ensures ∙ ap (slot_below d end) c.node-of.ensures), simp length-set c.loop-v.invariant.1)
+    (filled_more f c.loop-v.slots c.loop-v.v c.slot_below.result (omega (arith, d.source.few)) c.loop-v.invariant.0 (c.slot_below.ensures ∙ ap (slot_below d end) c.node_of.ensures), simp length-set c.loop-v.invariant.1)

@@ -16,4 +16,4 @@ returns c =
     let d = c.args.draft.now in
     let s = order_in d c.args.token.now in
     let e : goes s c.args.used c.args.v ≡ true = sym (c.goes.ensures d) ∙ c.if-not-goes.false in
-    move_some s (class_in d) store_row c.args.used c.args.v c.args.weight c.args.page.now.next c.class-of-class.result c.slot-of.result c.args.page.now c.take-temporary.new.page c.push.new.page e c.class-of-class.ensures c.slot-of.ensures c.take-temporary.ensures c.push.ensures
+    move_some s (class_in d) store_row c.args.used c.args.v c.args.weight c.args.page.now.next c.class_of-class.result c.slot_of.result c.args.page.now c.take_temporary.new.page c.push.new.page e c.class_of-class.ensures c.slot_of.ensures c.take_temporary.ensures c.push.ensures

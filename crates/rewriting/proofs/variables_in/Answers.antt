@@ -16,7 +16,7 @@ loop-v-preserved c =
     let d = c.args.draft.now in
     let x = members c.args.nodes.now in
     let t : ℕ → Bool = λ v. has x (node_in d c.args.end.now v) in
-    let is : t c.loop-v.v ≡ c.contains.result = sym (c.contains.ensures ∙ ap (has x) c.node-of.ensures) in
+    let is : t c.loop-v.v ≡ c.contains.result = sym (c.contains.ensures ∙ ap (has x) c.node_of.ensures) in
     elim c.if-contains.branch [
       | then-contains w ↦
           those_with t c.loop-v.v (members c.loop-v.set) (members c.if-contains.set) c.loop-v.invariant (is ∙ w.if-contains.true) (omega (arith, d.source.few)) (ap members w.set-is ∙ w.with-set.ensures)

@@ -8,15 +8,15 @@ use Rattle.rewriting.proofs.Growing.{nothing_more, rows_fit, classes_fit}
 use Rattle.rewriting.proofs.Replacing.{block_inner, block_kept, replaced_inner, replaced_kept}
 use Rattle.rewriting.proofs.write_block.Goals as goal
 
-pub returns-then-not-is-inner : goal.returns-then-not-is-inner
-returns-then-not-is-inner c =
+pub returns-then-not-is_inner : goal.returns-then-not-is_inner
+returns-then-not-is_inner c =
     let d = c.args.draft.now in
     let s = order_in d c.args.token.now in
     let class = class_in d in
     let r = c.args.row in
     let p = c.args.page.now in
-    let e : inner s r ≡ false = sym c.is-inner.ensures ∙ c.if-not-is-inner.true in
-    let g = c.write-rows.ensures in
+    let e : inner s r ≡ false = sym c.is_inner.ensures ∙ c.if-not-is_inner.true in
+    let g = c.write_rows.ensures in
     let kept = replaced_kept s class r e in
     let n : length (news_for s class r) ≡ length (replaced s r) = sym (ap length kept) ∙ length-map (replaced s r) class in
     record {
@@ -26,13 +26,13 @@ returns-then-not-is-inner c =
       next = g.next ∙ ap (λ (k : ℕ). p.next + k) n;
     }
 
-pub returns-else-not-is-inner : goal.returns-else-not-is-inner
-returns-else-not-is-inner c =
+pub returns-else-not-is_inner : goal.returns-else-not-is_inner
+returns-else-not-is_inner c =
     let d = c.args.draft.now in
     let s = order_in d c.args.token.now in
     let r = c.args.row in
     let p = c.args.page.now in
-    let e : inner s r ≡ true = sym c.is-inner.ensures ∙ c.if-not-is-inner.false in
+    let e : inner s r ≡ true = sym c.is_inner.ensures ∙ c.if-not-is_inner.false in
     let gone : replaced s r ≡ [] = replaced_inner s (class_in d) r e in
     record {
       lines = c.open.ensures.rows ∙ nothing_more 512 (rows_in p.layout) (rows_fit p) ∙ ap (λ (b : List Row). take 512 (rows_in p.layout ++ b)) (sym (block_inner s (class_in d) p.next r e));

@@ -16,16 +16,16 @@ pub loop-i-init : goal.loop-i-init
 unfolding blocks all_replaced flat
 loop-i-init c =
     let d = c.args.draft.now in
-    let p = c.first-page-page.result in
+    let p = c.first_page-page.result in
     let n : length (working_of d).classes ≡ d.nodes = length-take-le d.nodes d.classes (omega (arith, d.few, d.whole)) in (
-      holds_none (rows_in p.layout) (starts_in p.layout) c.first-page-page.ensures.lines c.first-page-page.ensures.starts,
-      c.first-page-page.ensures.classes ∙ nothing_more 448 (working_of d).classes (omega (arith, n, d.few)),
-      omega (arith, n, c.first-page-page.ensures.next),
-      omega (arith, d.few, c.first-page-page.ensures.next),
+      holds_none (rows_in p.layout) (starts_in p.layout) c.first_page-page.ensures.lines c.first_page-page.ensures.starts,
+      c.first_page-page.ensures.classes ∙ nothing_more 448 (working_of d).classes (omega (arith, n, d.few)),
+      omega (arith, n, c.first_page-page.ensures.next),
+      omega (arith, d.few, c.first_page-page.ensures.next),
     )
 
-pub write-block-requires : goal.write-block-requires
-write-block-requires c = omega (arith, c.loop-i.invariant.3, c.args.draft.now.few)
+pub write_block-requires : goal.write_block-requires
+write_block-requires c = omega (arith, c.loop-i.invariant.3, c.args.draft.now.few)
 
 pub loop-i-preserved : goal.loop-i-preserved
 loop-i-preserved c =
@@ -37,8 +37,8 @@ loop-i-preserved c =
     let r = get_or d.rows i end_row in
     let rs = take i d.rows in
     let p = c.loop-i.page in
-    let q = c.write-block.new.page in
-    let h = c.write-block.ensures in
+    let q = c.write_block.new.page in
+    let h = c.write_block.ensures in
     let more : take (i + 1) d.rows ≡ rs ++ r ∷ [] = take_more d.rows i end_row (omega (arith, d.few, d.whole)) in
     let all : all_replaced s (rs ++ r ∷ []) ≡ all_replaced s rs ++ replaced s r = all_push s class rs r in
     let n : length (all_replaced s (rs ++ r ∷ [])) ≡ length (all_replaced s rs) + length (replaced s r) = ap length all ∙ length-append (all_replaced s rs) (replaced s r) in

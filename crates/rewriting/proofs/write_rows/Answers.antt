@@ -14,5 +14,5 @@ pub returns : goal.returns
 returns c =
     let d = c.args.draft.now in
     let s = order_in d c.args.token.now in
-    rows_written s (class_in d) c.args.row c.shape-shape.result c.load-a.result c.load-b.result c.name-of-d.result c.args.page.now c.load-a.new.page c.load-b.new.page c.push.new.page c.store.new.page c.shape-shape.ensures
-    c.load-a.ensures.grows c.load-a.ensures.name c.load-b.ensures.grows c.load-b.ensures.name (c.name-of-d.ensures d) c.push.ensures c.store.ensures
+    rows_written s (class_in d) c.args.row c.shape-shape.result c.load-a.result c.load-b.result c.name_of-d.result c.args.page.now c.load-a.new.page c.load-b.new.page c.push.new.page c.store.new.page c.shape-shape.ensures
+    c.load-a.ensures.grows c.load-a.ensures.name c.load-b.ensures.grows c.load-b.ensures.name (c.name_of-d.ensures d) c.push.ensures c.store.ensures

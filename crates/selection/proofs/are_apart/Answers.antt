@@ -10,4 +10,4 @@ returns c =
     let lb : 64 * length c.args.b.words ≡ 448 = omega arith in
     let a : members c.args.a < 2 ^ 448 = rw la at (joined_lt c.args.a.words) in
     let b : members c.args.b < 2 ^ 448 = rw lb at (joined_lt c.args.b.words) in
-    c.is-empty.ensures ∙ ap (λ (n : ℕ). eqb n 0) c.meet.ensures ∙ apart_is _ _ a b
+    c.is_empty.ensures ∙ ap (λ (n : ℕ). eqb n 0) c.meet.ensures ∙ apart_is _ _ a b

@@ -4,8 +4,8 @@ use Rattle.sets.specs.Words.{members}
 use Rattle.selection.specs.Occupants.{vacant}
 use Rattle.selection.proofs.lowest_vacant.Goals as goal
 
-pub returns-then-are-apart : goal.returns-then-are-apart
-returns-then-are-apart g c =
+pub returns-then-are_apart : goal.returns-then-are_apart
+returns-then-are_apart g c =
     let m = g.F.RegisterFile.model c.args.file.now in
     least_is (vacant m c.args.occupants.now c.args.class (members c.args.neighbours)) m.count c.loop-r.r (search rules) c.loop-r.invariant (search rules)
 

@@ -31,7 +31,7 @@ overflow-cast-registers g c =
     let m = g.F.RegisterFile.model c.args.file.now in
     let few = (g.met.F.RegisterFile.lawful c.args.file.now).few in
     let class = get_or c.args.classes.now (get_or c.args.order.now (c.loop-i.i - 1) no_removed).node 0 in
-    omega (arith, few, c.lowest-vacant-s.ensures, least_le (vacant m c.loop-i.occupants class (members c.beside.result)) m.count)
+    omega (arith, few, c.lowest_vacant-s.ensures, least_le (vacant m c.loop-i.occupants class (members c.beside.result)) m.count)
 
 pub loop-i-preserved-then-v-classes : goal.loop-i-preserved-then-v-classes
 loop-i-preserved-then-v-classes g c =
@@ -42,7 +42,7 @@ loop-i-preserved-then-v-classes g c =
     let order = c.args.order.now in
     let j = c.loop-i.i - 1 in
     let v = (get_or order j no_removed).node in
-    let s = c.lowest-vacant-s.result in
+    let s = c.lowest_vacant-s.result in
     let taken = take n c.loop-i.registers in
     let inside : v < n = c.if-v-classes.true in
     let moved = take_of_set n c.loop-i.registers v s in
@@ -52,7 +52,7 @@ loop-i-preserved-then-v-classes g c =
           let near = c.beside.ensures ∙ ap (λ es. beside es v) (sym ee) in
           let chosen : s ≡ choice m graph taken v =
           lowest_choice m lawful graph taken c.loop-i.occupants (size ∙ ap length (sym ec)) (omega arith) (c.loop-i.invariant.1 few)
-          v (get_or classes v 0) (members c.beside.result) s (ap (λ (cs : List ℕ). get_or cs v 0) (sym ec)) near c.lowest-vacant-s.ensures in
+          v (get_or classes v 0) (members c.beside.result) s (ap (λ (cs : List ℕ). get_or cs v 0) (sym ec)) near c.lowest_vacant-s.ensures in
           selected_step m graph order c.loop-i.i j taken (take n (set c.loop-i.registers v s)) (omega arith) (omega arith) (c.loop-i.invariant.0 few graph ec ee) (moved ∙ ap (set taken v) chosen),
       λ few.
           let size = sized few in

@@ -4,4 +4,4 @@ use Rattle.sheets.proofs.block_of.Goals as goal
 
 pub returns : goal.returns
 returns c =
-    c.block-at.ensures ∙ (λ i. block_at c.args.row (c.place-at.ensures i) (c.place-at-2.ensures i) (c.place-at-3.ensures i) c.args.code.now)
+    c.block_at.ensures ∙ (λ i. block_at c.args.row (c.place_at.ensures i) (c.place_at-2.ensures i) (c.place_at-3.ensures i) c.args.code.now)

@@ -9,10 +9,10 @@ returns-then-not-contains g c = λ gr d.
 
 pub returns-then-cost-best : goal.returns-then-cost-best
 returns-then-cost-best g c = λ gr d.
-    better_less (g.F.RegisterFile.model c.args.file.now) gr c.args.costs.now (members c.args.left) c.args.v c.args.best c.pressure-left-pressure.result (sym c.if-not-contains.ensures)
-    (c.pressure-left-pressure.ensures gr d) c.if-cost-best.true _ refl
+    better_less (g.F.RegisterFile.model c.args.file.now) gr c.args.costs.now (members c.args.left) c.args.v c.args.best c.pressure_left-pressure.result (sym c.if-not-contains.ensures)
+    (c.pressure_left-pressure.ensures gr d) c.if-cost-best.true _ refl
 
 pub returns-else-cost-best : goal.returns-else-cost-best
 returns-else-cost-best g c = λ gr d.
-    better_same (g.F.RegisterFile.model c.args.file.now) gr c.args.costs.now (members c.args.left) c.args.v c.args.best c.pressure-left-pressure.result (sym c.if-not-contains.ensures)
-    (c.pressure-left-pressure.ensures gr d) c.if-cost-best.false
+    better_same (g.F.RegisterFile.model c.args.file.now) gr c.args.costs.now (members c.args.left) c.args.v c.args.best c.pressure_left-pressure.result (sym c.if-not-contains.ensures)
+    (c.pressure_left-pressure.ensures gr d) c.if-cost-best.false

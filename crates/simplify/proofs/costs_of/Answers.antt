@@ -11,8 +11,8 @@ loop-i-init c = (refl, (λ gr e k h. omega (arith, nothing_charged 64 k)), λ k.
 pub loop-i-preserved : goal.loop-i-preserved
 loop-i-preserved c = (
   omega (arith, c.loop-i.invariant.0),
-  (λ gr e k h. carried _ _ _ _ _ _ (cost_more gr k c.args.lines.rows.now c.loop-i.i c.loop-i-test.true) (c.charge-row.ensures.exact gr e k (omega (arith, c.loop-i.invariant.0))) (c.loop-i.invariant.1 gr e k h)),
-  λ k. omega (arith, c.charge-row.ensures.small k, c.loop-i.invariant.2 k),
+  (λ gr e k h. carried _ _ _ _ _ _ (cost_more gr k c.args.lines.rows.now c.loop-i.i c.loop-i-test.true) (c.charge_row.ensures.exact gr e k (omega (arith, c.loop-i.invariant.0))) (c.loop-i.invariant.1 gr e k h)),
+  λ k. omega (arith, c.charge_row.ensures.small k, c.loop-i.invariant.2 k),
 )
 
 pub returns : goal.returns

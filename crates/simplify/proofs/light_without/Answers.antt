@@ -45,7 +45,7 @@ returns g c = λ gr before d same is.
     let few : n ≤ 448 = c.args.variables.now.few.1 in
     let long : length gr.classes ≡ n = drawn_length c.args.variables.now c.args.edges.now gr d in
     let made : heavy ≡ meet (minus left light) (up_to (min n 448)) =
-    c.meet-heavy.ensures ∙ ap (λ (x : ℕ). meet x (members c.up-to.result)) c.minus.ensures ∙ ap (meet (minus left light)) c.up-to.ensures in
+    c.meet-heavy.ensures ∙ ap (λ (x : ℕ). meet x (members c.up_to.result)) c.minus.ensures ∙ ap (meet (minus left light)) c.up_to.ensures in
     let is-heavy = heavy_is left light n heavy few made in
     let none : (k : ℕ) → 448 ≤ k → has heavy k ≡ false = λ k l. is-heavy k ∙ heavy_below (has left k && not (has light k)) n few k l in
     light_now m gr before c.args.gone left light (has (members c.loop-v.lighter)) (has heavy) same is

@@ -15,25 +15,25 @@ returns-in-default c =
 
 pub returns-then-not-spare : goal.returns-then-not-spare
 returns-then-not-spare c =
-    let j = judged_by c.args.head.vars c.args.head.count (λ v. get_or c.args.classes.now v 0) c.args.i c.args.word _ _ (opens _ c.args.word _ c.part.ensures.value c.in-Some.ensures) c.row-by-row.ensures in
+    let j = judged_by c.args.head.vars c.args.head.count (λ v. get_or c.args.classes.now v 0) c.args.i c.args.word _ _ (opens _ c.args.word _ c.part.ensures.value c.in-Some.ensures) c.row_by-row.ensures in
     j.0 ∙ rw (sym c.if-not-spare.ensures)
 
 pub returns-then-not-known : goal.returns-then-not-known
 returns-then-not-known c =
-    let j = judged_by c.args.head.vars c.args.head.count (λ v. get_or c.args.classes.now v 0) c.args.i c.args.word _ _ (opens _ c.args.word _ c.part.ensures.value c.in-Some.ensures) c.row-by-row.ensures in
+    let j = judged_by c.args.head.vars c.args.head.count (λ v. get_or c.args.classes.now v 0) c.args.i c.args.word _ _ (opens _ c.args.word _ c.part.ensures.value c.in-Some.ensures) c.row_by-row.ensures in
     j.0 ∙ rw (sym c.if-not-spare.ensures, sym c.if-not-known.ensures)
 
 pub returns-then-not-suits : goal.returns-then-not-suits
 returns-then-not-suits c =
-    let j = judged_by c.args.head.vars c.args.head.count (λ v. get_or c.args.classes.now v 0) c.args.i c.args.word _ _ (opens _ c.args.word _ c.part.ensures.value c.in-Some.ensures) c.row-by-row.ensures in
+    let j = judged_by c.args.head.vars c.args.head.count (λ v. get_or c.args.classes.now v 0) c.args.i c.args.word _ _ (opens _ c.args.word _ c.part.ensures.value c.in-Some.ensures) c.row_by-row.ensures in
     j.0 ∙ rw (sym c.if-not-spare.ensures, sym c.if-not-known.ensures, sym c.if-not-suits.ensures)
 
-pub returns-then-leads-out : goal.returns-then-leads-out
-returns-then-leads-out c =
-    let j = judged_by c.args.head.vars c.args.head.count (λ v. get_or c.args.classes.now v 0) c.args.i c.args.word _ _ (opens _ c.args.word _ c.part.ensures.value c.in-Some.ensures) c.row-by-row.ensures in
-    j.0 ∙ rw (sym c.if-not-spare.ensures, sym c.if-not-known.ensures, sym c.if-not-suits.ensures, sym c.if-leads-out.ensures)
+pub returns-then-leads_out : goal.returns-then-leads_out
+returns-then-leads_out c =
+    let j = judged_by c.args.head.vars c.args.head.count (λ v. get_or c.args.classes.now v 0) c.args.i c.args.word _ _ (opens _ c.args.word _ c.part.ensures.value c.in-Some.ensures) c.row_by-row.ensures in
+    j.0 ∙ rw (sym c.if-not-spare.ensures, sym c.if-not-known.ensures, sym c.if-not-suits.ensures, sym c.if-leads_out.ensures)
 
 pub returns : goal.returns
 returns c =
-    let j = judged_by c.args.head.vars c.args.head.count (λ v. get_or c.args.classes.now v 0) c.args.i c.args.word _ _ (opens _ c.args.word _ c.part.ensures.value c.in-Some.ensures) c.row-by-row.ensures in
-    (j.0 ∙ rw (sym c.if-not-spare.ensures, sym c.if-not-known.ensures, sym c.if-not-suits.ensures, sym c.if-leads-out.ensures), j.1)
+    let j = judged_by c.args.head.vars c.args.head.count (λ v. get_or c.args.classes.now v 0) c.args.i c.args.word _ _ (opens _ c.args.word _ c.part.ensures.value c.in-Some.ensures) c.row_by-row.ensures in
+    (j.0 ∙ rw (sym c.if-not-spare.ensures, sym c.if-not-known.ensures, sym c.if-not-suits.ensures, sym c.if-leads_out.ensures), j.1)

@@ -7,10 +7,10 @@ use Rattle.source.proofs.read_classes.Goals as goal
 pub loop-v-init : goal.loop-v-init
 loop-v-init c = (refl, c.requires.first, classing_none c.args.reader.now.file.now)
 
-pub returns-in-err-classes : goal.returns-in-err-classes
-returns-in-err-classes c =
+pub returns-in_err-classes : goal.returns-in_err-classes
+returns-in_err-classes c =
     let bs = c.args.reader.now.file.now in
-    let b = c.in-err-classes.ensures in
+    let b = c.in_err-classes.ensures in
     let p = err_from_is_err_and c.from-residual.result c.from-residual.ensures.1 in
     let here = sym (field_at _ bs _ (16 + 2 * c.loop-v.v) 2 2 c.loop-v.invariant.0 c.loop-v.invariant.1 refl) ∙ b.class.0 in
     record {
@@ -21,17 +21,17 @@ returns-in-err-classes c =
 pub loop-v-preserved : goal.loop-v-preserved
 loop-v-preserved c =
     let bs = c.args.reader.now.file.now in
-    let b = c.in-ok-classes.ensures in
+    let b = c.in_ok-classes.ensures in
     let here = b.class.0 ∙ field_at _ bs _ (16 + 2 * c.loop-v.v) 2 2 c.loop-v.invariant.0 c.loop-v.invariant.1 refl in (
       b.whole ∙ c.loop-v.invariant.0,
       omega (arith, b.class.2, c.loop-v.invariant.1),
-      classing_more bs c.loop-v.classes c.loop-v.v c.in-ok-classes.field-0 (omega (arith, c.requires.few, c.loop-v-test.true)) c.loop-v.invariant.2 here b.class.1,
+      classing_more bs c.loop-v.classes c.loop-v.v c.in_ok-classes.field-0 (omega (arith, c.requires.few, c.loop-v-test.true)) c.loop-v.invariant.2 here b.class.1,
     )
 
 pub returns-then-branch-ne0 : goal.returns-then-branch-ne0
 returns-then-branch-ne0 c =
     let bs = c.args.reader.now.file.now in
-    let t = c.in-ok-take.ensures in
+    let t = c.in_ok-take.ensures in
     let all : c.loop-v.v ≡ vars_in bs = omega (arith, c.requires.known, c.loop-v-test.false, c.loop-v.auto.v-end) in
     let fill = sym (field_at _ bs _ (16 + 2 * vars_in bs) _ (8 * class_bytes (vars_in bs) - 2 * vars_in bs) c.loop-v.invariant.0 (c.loop-v.invariant.1 ∙ ap (λ (k : ℕ). 16 + 2 * k) all) (fill_short c.args.vars (vars_in bs) c.requires.known)) in
     record {
@@ -42,7 +42,7 @@ returns-then-branch-ne0 c =
 pub returns : goal.returns
 returns c =
     let bs = c.args.reader.now.file.now in
-    let t = c.in-ok-take.ensures in
+    let t = c.in_ok-take.ensures in
     let all : c.loop-v.v ≡ vars_in bs = omega (arith, c.requires.known, c.loop-v-test.false, c.loop-v.auto.v-end) in
     let fill = sym (field_at _ bs _ (16 + 2 * vars_in bs) _ (8 * class_bytes (vars_in bs) - 2 * vars_in bs) c.loop-v.invariant.0 (c.loop-v.invariant.1 ∙ ap (λ (k : ℕ). 16 + 2 * k) all) (fill_short c.args.vars (vars_in bs) c.requires.known)) in
     record {

@@ -4,24 +4,24 @@ use Rattle.source.specs.Bits.{field}
 use Rattle.source.proofs.Parts.{headed, headed_none}
 use Rattle.source.proofs.read_header.Goals as goal
 
-pub returns-in-err-vars : goal.returns-in-err-vars
-returns-in-err-vars c =
-    let a = c.in-err-vars.ensures in
+pub returns-in_err-vars : goal.returns-in_err-vars
+returns-in_err-vars c =
+    let a = c.in_err-vars.ensures in
     let p = err_from_is_err_and c.from-residual.result c.from-residual.ensures.1 in
     record { whole = a.whole; headed = headed_none c.args.reader.now.file.now _ p.0 _ (omega (arith, a.taken.0)) (p.2 ∙ a.taken.1) p.1 }
 
-pub returns-in-err-count : goal.returns-in-err-count
-returns-in-err-count c =
-    let a = c.in-ok-vars.ensures in
-    let b = c.in-err-count.ensures in
-    let p = err_from_is_err_and c.from-residual-in-err-count.result c.from-residual-in-err-count.ensures.1 in
+pub returns-in_err-count : goal.returns-in_err-count
+returns-in_err-count c =
+    let a = c.in_ok-vars.ensures in
+    let b = c.in_err-count.ensures in
+    let p = err_from_is_err_and c.from-residual-in_err-count.result c.from-residual-in_err-count.ensures.1 in
     let short : length c.args.reader.now.file.now < 2 = omega (arith, a.taken.2, b.taken.0, ap length a.whole) in
     record { whole = b.whole ∙ a.whole; headed = headed_none c.args.reader.now.file.now _ p.0 _ short (p.2 ∙ b.taken.1) p.1 }
 
 pub returns : goal.returns
 returns c =
-    let a = c.in-ok-vars.ensures in
-    let b = c.in-ok-count.ensures in
+    let a = c.in_ok-vars.ensures in
+    let b = c.in_ok-count.ensures in
     let bs = c.args.reader.now.file.now in
     let second : 8 * c.take.new.self.byte + c.take.new.self.bit ≡ 8 = omega (arith, a.taken.2) in
     record {

@@ -6,15 +6,15 @@ use Rattle.source.proofs.read_rows.Goals as goal
 pub loop-i-init : goal.loop-i-init
 loop-i-init c = (refl, c.requires.first, rowing_none _ _ refl)
 
-pub next-row-requires : goal.next-row-requires
-next-row-requires c =
+pub next_row-requires : goal.next_row-requires
+next_row-requires c =
     let e = c.loop-i.invariant.0 in
     record { heads = rw e c.requires.heads; classed = rw e c.requires.classed; row = (c.loop-i-test.true, rw e c.loop-i.invariant.1) }
 
-pub returns-in-err-rows : goal.returns-in-err-rows
-returns-in-err-rows c =
+pub returns-in_err-rows : goal.returns-in_err-rows
+returns-in_err-rows c =
     let bs = c.args.reader.now.file.now in
-    let b = c.in-err-rows.ensures in
+    let b = c.in_err-rows.ensures in
     let p = err_from_is_err_and c.from-residual.result c.from-residual.ensures.1 in
     let at = rw c.loop-i.invariant.0 at b.row in
     rowed_err bs c.from-residual.result _ p.0 (rowed_bad bs c.loop-i.rows c.loop-i.i _ (omega (arith, c.requires.heads.count, c.loop-i-test.true)) c.loop-i.invariant.2 at) p.2 p.1
@@ -22,7 +22,7 @@ returns-in-err-rows c =
 pub loop-i-preserved : goal.loop-i-preserved
 loop-i-preserved c =
     let bs = c.args.reader.now.file.now in
-    let b = c.in-ok-rows.ensures in
+    let b = c.in_ok-rows.ensures in
     let at = rw c.loop-i.invariant.0 at b.row in (
       b.whole ∙ c.loop-i.invariant.0,
       at.2,

@@ -14,13 +14,13 @@ pub invariant-of-p : goal.invariant-of-p
 invariant-of-p c =
     let bs = c.args.file.now in
     let m = parts c.args.first.now c.args.second.now c.args.third.now in
-    let p = program_of c.in-ok-source.source in
-    let r : (answered bs m).result ≡ Ok p = sym (ap (λ (a : Answer). a.result) c.in-ok-source.ensures) in
+    let p = program_of c.in_ok-source.source in
+    let r : (answered bs m).result ≡ Ok p = sym (ap (λ (a : Answer). a.result) c.in_ok-source.ensures) in
     let P : Working → Type 0 = λ w. HasGrown w in
     (subst P (sym c.of.ensures) (first_grown bs p (admits_in bs m p r).admits), tt)
 
-pub returns-in-err-source : goal.returns-in-err-source
-returns-in-err-source c =
+pub returns-in_err-source : goal.returns-in_err-source
+returns-in_err-source c =
     let p = err_from_is_err_and c.from-residual.result c.from-residual.ensures.1 in
     record {
       answer = search rules;
@@ -32,9 +32,9 @@ returns-in-err-source c =
 
 pub returns : goal.returns
 returns c =
-    let s : program_of c.of.result.source ≡ program_of c.in-ok-source.source = ap (λ (w : Working). w.source) c.of.ensures in
+    let s : program_of c.of.result.source ≡ program_of c.in_ok-source.source = ap (λ (w : Working). w.source) c.of.ensures in
     record {
-      answer = rw s c.in-ok-source.ensures;
+      answer = rw s c.in_ok-source.ensures;
       fresh = λ h. c.of.ensures ∙ ap (λ (q : Program). admitted q) (sym s);
       refused = search rules;
       same = search rules;

@@ -6,8 +6,8 @@ use Rattle.drafts.specs.Drafts.{working_of, Shows}
 use Rattle.stages.proofs.Turning.{shown, small, flag}
 use Rattle.stages.proofs.take_turn.Goals as goal
 
-pub returns-then-is-empty : goal.returns-then-is-empty
-returns-then-is-empty g c =
+pub returns-then-is_empty : goal.returns-then-is_empty
+returns-then-is_empty g c =
     let m = g.F.RegisterFile.model c.args.file.now in
     let d = c.args.draft.now in
     let o : Outcome = round_of m (working_of d) in
@@ -16,14 +16,14 @@ returns-then-is-empty g c =
     let h : Shows d.nodes c.allocate-end.result o = shown m d c.of-variables.result (members c.unspilled.result) (take (d.count - 0) d.rows) c.allocate-end.result s c.of-variables.ensures.1 c.unspilled.ensures (ap (λ (n : ℕ). take n d.rows) z) c.allocate-end.ensures.shows in
     let few : d.rounds < 255 = omega (arith, c.requires.fits.rounds, c.requires.fits.vars) in
     record {
-      flag = ap not (flag d.nodes c.allocate-end.result o true h c.if-is-empty.ensures);
+      flag = ap not (flag d.nodes c.allocate-end.result o true h c.if-is_empty.ensures);
       out = λ e. absurd (let z : ◌≡◌ {A = ℕ} 0 1 = cc in omega arith);
       painted = λ e. c.colour.ensures o h c.requires.nodes few;
       memory = c.allocate-end.ensures.memory;
     }
 
-pub returns-else-is-empty : goal.returns-else-is-empty
-returns-else-is-empty g c =
+pub returns-else-is_empty : goal.returns-else-is_empty
+returns-else-is_empty g c =
     let m = g.F.RegisterFile.model c.args.file.now in
     let d = c.args.draft.now in
     let o : Outcome = round_of m (working_of d) in
@@ -31,7 +31,7 @@ returns-else-is-empty g c =
     let z : d.count - 0 ≡ d.count = omega arith in
     let h : Shows d.nodes c.allocate-end.result o = shown m d c.of-variables.result (members c.unspilled.result) (take (d.count - 0) d.rows) c.allocate-end.result s c.of-variables.ensures.1 c.unspilled.ensures (ap (λ (n : ℕ). take n d.rows) z) c.allocate-end.ensures.shows in
     record {
-      flag = ap not (flag d.nodes c.allocate-end.result o false h c.if-is-empty.ensures);
+      flag = ap not (flag d.nodes c.allocate-end.result o false h c.if-is_empty.ensures);
       out = λ e. (refl, c.spill-token.ensures o h (small m (working_of d) c.requires));
       painted = λ e. absurd (let z : ◌≡◌ {A = ℕ} 0 1 = cc in omega arith);
       memory = c.allocate-end.ensures.memory;

@@ -9,8 +9,8 @@ returns-in-Some c =
     let t = c.turn.ensures in
     let none : length c.turn.new.slots ≡ 0 = search rules in
     let row = c.current-row in
-    let x = c.number-at-x in
-    let y = c.number-at-y in
+    let x = c.number_at-x in
+    let y = c.number_at-y in
     let wrote = ap numbers_in c.put.ensures ∙ source_wrote s.player s.variables row.result x.result y.result row.ensures x.ensures y.ensures c.in-Some.number c.turn.result s.whole s.named c.in-Some.is t.number in
     record {
       rows = t.rows;
@@ -23,8 +23,8 @@ returns-in-default c =
     let t = c.turn.ensures in
     let none : length c.turn.new.slots ≡ 0 = search rules in
     let row = c.current-row in
-    let x = c.number-at-x in
-    let y = c.number-at-y in
+    let x = c.number_at-x in
+    let y = c.number_at-y in
     let kept = source_kept s.player s.variables row.result x.result y.result row.ensures x.ensures y.ensures c.turn.result c.in-default.is t.number in
     record {
       rows = t.rows;

@@ -7,15 +7,15 @@ use Rattle.printing.proofs.calls.write_played.Goals as goal
 pub returns : goal.returns
 unfolding played_text
 returns c =
-    IfOk-weaker c.write-number-3.result _ _
+    IfOk-weaker c.write_number-3.result _ _
     (λ u e.
     eight (vec_items c.args.out.now) (codes "> ") c.args.call.now (codes " ") (decimal c.args.asked) (codes " ") (decimal c.args.rows) (codes " ") (decimal c.args.outcome)
-    c.in-ok-extend-from-slice.ensures.items
-    c.in-ok-extend-from-slice-2.ensures.items
-    c.in-ok-extend-from-slice-3.ensures.items
-    c.in-ok-write-number.ensures
-    c.in-ok-extend-from-slice-4.ensures.items
-    c.in-ok-write-number-2.ensures
-    c.in-ok-extend-from-slice-5.ensures.items
+    c.in_ok-extend_from_slice.ensures.items
+    c.in_ok-extend_from_slice-2.ensures.items
+    c.in_ok-extend_from_slice-3.ensures.items
+    c.in_ok-write_number.ensures
+    c.in_ok-extend_from_slice-4.ensures.items
+    c.in_ok-write_number-2.ensures
+    c.in_ok-extend_from_slice-5.ensures.items
     e)
-    c.write-number-3.ensures
+    c.write_number-3.ensures

@@ -8,8 +8,8 @@ pub returns : goal.returns
 unfolding restarted_text
 returns c =
     five (vec_items c.args.out.now) (codes "> restart ") (decimal c.args.count) (codes " ") (numbers_text c.args.input.now) (codes " ok")
-    c.in-ok-extend-from-slice.ensures.items
-    c.in-ok-write-number.ensures
-    c.in-ok-extend-from-slice-2.ensures.items
-    c.in-ok-write-numbers.ensures
-    c.in-ok-extend-from-slice-3.ensures.items
+    c.in_ok-extend_from_slice.ensures.items
+    c.in_ok-write_number.ensures
+    c.in_ok-extend_from_slice-2.ensures.items
+    c.in_ok-write_numbers.ensures
+    c.in_ok-extend_from_slice-3.ensures.items

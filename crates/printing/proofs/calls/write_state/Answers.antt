@@ -8,15 +8,15 @@ use Rattle.printing.proofs.calls.write_state.Goals as goal
 pub returns : goal.returns
 unfolding state_text
 returns c =
-    IfOk-weaker c.write-numbers-4.result _ _
+    IfOk-weaker c.write_numbers-4.result _ _
     (λ u e.
     eight (vec_items c.args.out.now) (codes "> state ") (numbers_text c.args.source.now) (codes " ") (numbers_text c.args.code.now) (codes " ") (numbers_text c.args.bank.now) (codes " ") (numbers_text c.args.slots.now)
-    c.in-ok-extend-from-slice.ensures.items
-    c.in-ok-write-numbers.ensures
-    c.in-ok-extend-from-slice-2.ensures.items
-    c.in-ok-write-numbers-2.ensures
-    c.in-ok-extend-from-slice-3.ensures.items
-    c.in-ok-write-numbers-3.ensures
-    c.in-ok-extend-from-slice-4.ensures.items
+    c.in_ok-extend_from_slice.ensures.items
+    c.in_ok-write_numbers.ensures
+    c.in_ok-extend_from_slice-2.ensures.items
+    c.in_ok-write_numbers-2.ensures
+    c.in_ok-extend_from_slice-3.ensures.items
+    c.in_ok-write_numbers-3.ensures
+    c.in_ok-extend_from_slice-4.ensures.items
     e)
-    c.write-numbers-4.ensures
+    c.write_numbers-4.ensures

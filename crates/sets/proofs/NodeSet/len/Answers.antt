@@ -11,8 +11,8 @@ pub loop-i-init : goal.loop-i-init
 unfolding sum
 loop-i-init c = refl
 
-pub overflow-add-n : goal.overflow-add-n
-overflow-add-n c =
+pub overflow_add-n : goal.overflow_add-n
+overflow_add-n c =
     let w : get_or c.args.self.now.words c.loop-i.i 0 < 2 ^ 64 = search rules in
     omega (arith, c.loop-i.invariant, size_capped (64 * c.loop-i.i) (joined c.args.self.now.words), ones-le 64 _ w)
 

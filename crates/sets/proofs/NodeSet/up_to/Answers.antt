@@ -6,7 +6,7 @@ use Rattle.sets.proofs.NodeSet.up_to.Goals as goal
 pub loop-i-preserved : goal.loop-i-preserved
 loop-i-preserved c = (
   below_more _ _ (λ k h. let ne : k ≢ c.loop-i.i = omega arith in rw get_or-set_other (c.loop-i.invariant.0 k h))
-      (let lt : c.loop-i.i < length c.loop-i.s.words = omega (arith, c.loop-i.invariant.1) in rw get_or-set_same (c.low-bits.ensures ∙ ap (λ (m : ℕ). up_to (min m 64)) c.saturating-sub.ensures)),
+      (let lt : c.loop-i.i < length c.loop-i.s.words = omega (arith, c.loop-i.invariant.1) in rw get_or-set_same (c.low_bits.ensures ∙ ap (λ (m : ℕ). up_to (min m 64)) c.saturating_sub.ensures)),
   simp length-set c.loop-i.invariant.1,
 )
 

@@ -13,4 +13,4 @@ returns-then-v-self c =
 pub returns : goal.returns
 returns c =
     let d = c.args.self.now in
-    c.is-slot.ensures ∙ ap (λ (p : Place). is_slot p.home) (sym (get_or-take d.source.vars d.places c.args.v no_place c.if-v-self.false))
+    c.is_slot.ensures ∙ ap (λ (p : Place). is_slot p.home) (sym (get_or-take d.source.vars d.places c.args.v no_place c.if-v-self.false))

@@ -16,11 +16,11 @@ pub loop-v-preserved : goal.loop-v-preserved
 loop-v-preserved c =
     let d = c.args.self.now in
     let t : ℕ → Bool = λ v. not (spilled (working_of d).places v) in
-    elim c.if-not-is-spilled.branch [
+    elim c.if-not-is_spilled.branch [
       | then-not-is-spilled w ↦
-          those_with t c.loop-v.v (members c.loop-v.set) (members c.if-not-is-spilled.set) c.loop-v.invariant (ap not (sym c.is-spilled.ensures ∙ w.if-not-is-spilled.true)) (omega (arith, d.few)) (ap members w.set-is ∙ w.with-set.ensures)
+          those_with t c.loop-v.v (members c.loop-v.set) (members c.if-not-is_spilled.set) c.loop-v.invariant (ap not (sym c.is_spilled.ensures ∙ w.if-not-is_spilled.true)) (omega (arith, d.few)) (ap members w.set-is ∙ w.with-set.ensures)
       | else-not-is-spilled w ↦
-          those_same t c.loop-v.v (members c.loop-v.set) (members c.if-not-is-spilled.set) c.loop-v.invariant (ap not (sym c.is-spilled.ensures ∙ w.if-not-is-spilled.false)) (ap members w.set-is)
+          those_same t c.loop-v.v (members c.loop-v.set) (members c.if-not-is_spilled.set) c.loop-v.invariant (ap not (sym c.is_spilled.ensures ∙ w.if-not-is_spilled.false)) (ap members w.set-is)
     ]
 
 pub returns : goal.returns

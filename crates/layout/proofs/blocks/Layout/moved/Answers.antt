@@ -8,4 +8,4 @@ use Rattle.layout.proofs.blocks.Layout.moved.Goals as goal
 pub loop-i-preserved : goal.loop-i-preserved
 loop-i-preserved c =
     let l = c.args.self.now in
-    (mapped_more (moved (starts_in l)) c.loop-i.rows l.rows c.loop-i.i c.moved-row.result end_row (omega (arith, l.few)) (omega (arith, l.few, l.whole)) c.loop-i.invariant.0 c.moved-row.ensures, simp length-set c.loop-i.invariant.1)
+    (mapped_more (moved (starts_in l)) c.loop-i.rows l.rows c.loop-i.i c.moved_row.result end_row (omega (arith, l.few)) (omega (arith, l.few, l.whole)) c.loop-i.invariant.0 c.moved_row.ensures, simp length-set c.loop-i.invariant.1)
