@@ -14,7 +14,7 @@ use Rattle.chips.specs.PairedChip.{paired_file}
 use Rattle.compiling.specs.Working.{Compiled}
 use Rattle.compiling.specs.Compile.{compile}
 use Rattle.printing.specs.Texts.{compiled_text}
-use Rattle.hex.specs.Hex.{first_word, after_word, file_of}
+use Rattle.hexwords.specs.Hex.{first_word, after_word, file_of}
 use Rattle.answers.specs.declared.Chip.{Chip}
 use Rattle.answers.specs.declared.Chip.TheVariants.{Nested, Paired}
 use Rattle.answers.specs.declared.Memory.{Memory}

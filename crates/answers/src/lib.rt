@@ -10,7 +10,7 @@ ghost use Rattle.answers.specs.Answers.{layer_name as layer_name_of, verdict_tex
 use chips::nested::Nested;
 use chips::paired::Paired;
 use faults::{Layer, ProgramFault, Refusal};
-use hex::{first_word, read_file, split_word};
+use hexwords::{first_word, read_file, split_word};
 use printing::write_compiled;
 use registers::RegisterFile;
 use sets::NodeSet;

@@ -1,8 +1,8 @@
 -- A list of numbers, item by item.
 use Rattle.std.proofs.Common.{◌≡◌, ℕ, ◌+◌, ◌-◌, ◌<◌, ◌≤◌, Bool, true, false, cond, eqb, List, [], ◌∷◌, ◌++◌, length, get_or, take, drop, Some, None, Option, sym, refl, ap, ◌∙◌, append_assoc, append-nil, arith, length-drop}
 use Rattle.std.proofs.lemmas.List.{take_more, get_or-drop, at_drop_more, at_drop_all}
-use Rattle.hex.specs.Hex.{before}
-use Rattle.hex.proofs.Spelling.{onto, onto_byte}
+use Rattle.hexwords.specs.Hex.{before}
+use Rattle.hexwords.proofs.Spelling.{onto, onto_byte}
 use Rattle.numerals.specs.Numerals.{number_in, longer, items_in, numbers_of}
 
 -- bytes in front of the first item

@@ -1,6 +1,6 @@
 -- Words that write numbers.
 use Rattle.std.specs.Prelude.{ℕ, ◌+◌, ◌-◌, ◌*◌, ◌^◌, Bool, true, cond, ◌&&◌, List, [], ◌∷◌, length, Some, None, Option, ◌==◌, nat_le, nat_lt, slice_index}
-use Rattle.hex.specs.Hex.{before}
+use Rattle.hexwords.specs.Hex.{before}
 
 -- whether a byte is a decimal digit
 abbrev pub is_digit : ℕ → Bool

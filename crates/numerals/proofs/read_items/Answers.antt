@@ -1,6 +1,6 @@
 use Rattle.std.proofs.Common.{◌≡◌, ℕ, ◌+◌, ◌≤◌, List, [], ◌∷◌, ◌++◌, length, drop, Some, vec_items, Option, sym, ap, ◌∙◌, arith}
 use Rattle.std.proofs.lemmas.Bool.{eq-eqb, ne_eqb}
-use Rattle.hex.proofs.Spelling.{onto}
+use Rattle.hexwords.proofs.Spelling.{onto}
 use Rattle.numerals.specs.Numerals.{items_in, numbers_of}
 use Rattle.numerals.proofs.Items.{glued, part, part_none, item_more, item_comma, item_last, numbers_more, numbers_stop, numbers_end}
 use Rattle.numerals.proofs.read_items.Goals as goal

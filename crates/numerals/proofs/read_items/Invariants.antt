@@ -1,5 +1,5 @@
 use Rattle.std.proofs.Common.{◌≡◌, ◌≤◌, drop, vec_items}
-use Rattle.hex.proofs.Spelling.{onto}
+use Rattle.hexwords.proofs.Spelling.{onto}
 use Rattle.numerals.specs.Numerals.{items_in, numbers_of}
 use Rattle.numerals.proofs.Items.{glued, part}
 use Rattle.numerals.proofs.read_items.Given as goal

@@ -1,9 +1,9 @@
 use Rattle.std.proofs.Common.{◌≡◌, ℕ, length, drop, sym, refl, ap, ◌∙◌, arith}
 use Rattle.std.proofs.lemmas.List.{take_rest}
 use Rattle.std.proofs.lemmas.Bool.{eq-eqb, ne_eqb}
-use Rattle.hex.specs.Hex.{unspaced}
-use Rattle.hex.proofs.Words.{unspaced_more, unspaced_stop, unspaced_all}
-use Rattle.hex.proofs.without_spaces.Goals as goal
+use Rattle.hexwords.specs.Hex.{unspaced}
+use Rattle.hexwords.proofs.Words.{unspaced_more, unspaced_stop, unspaced_all}
+use Rattle.hexwords.proofs.without_spaces.Goals as goal
 
 pub loop-i-init : goal.loop-i-init
 loop-i-init c = refl

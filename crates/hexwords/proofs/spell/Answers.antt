@@ -1,8 +1,8 @@
 use Rattle.std.proofs.Common.{◌≡◌, ℕ, ◌+◌, ◌*◌, ◌%◌, ◌<◌, ◌≤◌, true, false, cond, eqb, ◌⊎◌, List, [], length, drop, Some, None, vec_items, Option, sym, refl, ap, ◌∙◌, inl, inr, arith}
 use Rattle.std.proofs.lemmas.Bool.{cases_Bool, eqb-true, eqb-false, cond-true, cond-false}
-use Rattle.hex.specs.Hex.{spelled}
-use Rattle.hex.proofs.Spelling.{onto, onto_none, spelled_more, spelled_stop, spelled_all, spelled_odd}
-use Rattle.hex.proofs.spell.Goals as goal
+use Rattle.hexwords.specs.Hex.{spelled}
+use Rattle.hexwords.proofs.Spelling.{onto, onto_none, spelled_more, spelled_stop, spelled_all, spelled_odd}
+use Rattle.hexwords.proofs.spell.Goals as goal
 
 pub loop-i-init : goal.loop-i-init
 loop-i-init c =

@@ -1,8 +1,8 @@
 use Rattle.std.proofs.Common.{◌≡◌, ℕ, ◌<◌, Bool, cond, eqb, List, length, get_or, Some, None, vec_items, Option, sym, ap, ◌∙◌, arith}
 use Rattle.std.proofs.lemmas.Result.{IfOk-weaker}
 use Rattle.std.proofs.lemmas.Bool.{ltb-true, ltb-false}
-use Rattle.hex.proofs.Spelling.{file_none, file_one, file_more}
-use Rattle.hex.proofs.read_file.Goals as goal
+use Rattle.hexwords.proofs.Spelling.{file_none, file_one, file_more}
+use Rattle.hexwords.proofs.read_file.Goals as goal
 
 pub returns-in-empty : goal.returns-in-empty
 returns-in-empty c = file_none c.args.word.now (omega (arith, ltb-true))

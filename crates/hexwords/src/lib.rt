@@ -1,7 +1,7 @@
 #![tactic(auto)]
 
 ghost use Rattle.std.specs.Prelude.{◌≡◌, ◌+◌, ◌*◌, ◌<◌, ◌≤◌, length, take, drop, IfOk, if◌then◌else◌, Some, None};
-ghost use Rattle.hex.specs.Hex.{unspaced, up_to_space, from_space, first_word, after_word, digit, Valued, pair_of, spelled, file_of};
+ghost use Rattle.hexwords.specs.Hex.{unspaced, up_to_space, from_space, first_word, after_word, digit, Valued, pair_of, spelled, file_of};
 
 use std::alloc::AllocError;
 

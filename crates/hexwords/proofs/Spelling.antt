@@ -1,7 +1,7 @@
 -- The file that digits spell, two digits at a time.
 use Rattle.std.proofs.Common.{◌≡◌, ℕ, suc, ◌+◌, ◌*◌, ◌<◌, ◌≤◌, true, false, cond, eqb, List, [], ◌∷◌, ◌++◌, length, get_or, drop, Some, None, Option, sym, refl, ap, ◌∙◌, append_assoc, append-nil, arith}
 use Rattle.std.proofs.lemmas.List.{drop_more, drop_all}
-use Rattle.hex.specs.Hex.{digit, pair_of, before, spelled, file_of}
+use Rattle.hexwords.specs.Hex.{digit, pair_of, before, spelled, file_of}
 
 -- what is spelled so far in front of the rest
 abbrev pub onto : List ℕ → Option (List ℕ) → Option (List ℕ)

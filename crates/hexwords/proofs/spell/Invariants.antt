@@ -1,7 +1,7 @@
 use Rattle.std.proofs.Common.{◌≡◌, ◌*◌, ◌≤◌, drop, vec_items, vec_len, vec_capacity}
-use Rattle.hex.specs.Hex.{spelled}
-use Rattle.hex.proofs.Spelling.{onto}
-use Rattle.hex.proofs.spell.Given as goal
+use Rattle.hexwords.specs.Hex.{spelled}
+use Rattle.hexwords.proofs.Spelling.{onto}
+use Rattle.hexwords.proofs.spell.Given as goal
 
 abbrev pub invariant-loop-i : goal.invariant-loop-i
 invariant-loop-i l =

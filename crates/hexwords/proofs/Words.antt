@@ -1,7 +1,7 @@
 -- The first word of a line, byte by byte.
 use Rattle.std.proofs.Common.{◌≡◌, ℕ, ◌+◌, ◌<◌, ◌≤◌, Bool, true, false, cond, eqb, List, [], ◌∷◌, ◌++◌, length, get_or, take, drop, sym, refl, ap, ◌∙◌, append_assoc, append-nil}
 use Rattle.std.proofs.lemmas.List.{take_more, take_all, at_drop_more, at_drop_all}
-use Rattle.hex.specs.Hex.{unspaced, up_to_space, from_space}
+use Rattle.hexwords.specs.Hex.{unspaced, up_to_space, from_space}
 
 pub unspaced_more : (xs : List ℕ) (i : ℕ) → i < length xs → eqb (get_or xs i 0) 32 ≡ true → unspaced (drop i xs) ≡ unspaced (drop (i + 1) xs)
 unfolding unspaced

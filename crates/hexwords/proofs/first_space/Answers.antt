@@ -1,8 +1,8 @@
 use Rattle.std.proofs.Common.{◌≡◌, ℕ, length, take, drop, sym, refl, ap, ◌∙◌, arith}
 use Rattle.std.proofs.lemmas.List.{take_all}
 use Rattle.std.proofs.lemmas.Bool.{eq-eqb, ne_eqb}
-use Rattle.hex.proofs.Words.{to_space_more, to_space_stop, to_space_all, from_space_more, from_space_stop, from_space_all}
-use Rattle.hex.proofs.first_space.Goals as goal
+use Rattle.hexwords.proofs.Words.{to_space_more, to_space_stop, to_space_all, from_space_more, from_space_stop, from_space_all}
+use Rattle.hexwords.proofs.first_space.Goals as goal
 
 pub loop-i-init : goal.loop-i-init
 loop-i-init c = (refl, refl)

@@ -1,6 +1,6 @@
 use Rattle.std.proofs.Common.{◌≡◌, ◌++◌, take, drop}
-use Rattle.hex.specs.Hex.{up_to_space, from_space}
-use Rattle.hex.proofs.first_space.Given as goal
+use Rattle.hexwords.specs.Hex.{up_to_space, from_space}
+use Rattle.hexwords.proofs.first_space.Given as goal
 
 abbrev pub invariant-loop-i : goal.invariant-loop-i
 invariant-loop-i l =
