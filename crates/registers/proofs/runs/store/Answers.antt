@@ -3,8 +3,8 @@ use Rattle.std.proofs.lemmas.Nat.{one_shl, pow_pos}
 use Rattle.registers.proofs.RunBits.{stored}
 use Rattle.registers.proofs.runs.store.Goals as goal
 
-pub nonzero-rem-below : goal.nonzero-rem-below
-nonzero-rem-below c = rw (one_shl c.args.run.low 128 (omega arith)) (pow_pos c.args.run.low)
+pub nonzero_rem-below : goal.nonzero-rem-below
+nonzero_rem-below c = rw (one_shl c.args.run.low 128 (omega arith)) (pow_pos c.args.run.low)
 
 pub returns : goal.returns
 returns c = stored c.args.bits c.args.run.low c.args.run.width c.args.v (omega arith) (omega arith) (omega arith) (omega arith)
