@@ -1,7 +1,7 @@
 use Rattle.std.proofs.Common.{◌≡◌, ℕ, ◌+◌, ◌*◌, refl, ap, ◌∙◌, arith}
 use Rattle.source.specs.Bits.{field}
 use Rattle.source.proofs.Rows.{row_next, row_room}
-use Rattle.source.proofs.next_row_lem.Goals as goal
+use Rattle.source.proofs.next_row.Goals as goal
 
 pub returns : goal.returns
 returns c =
