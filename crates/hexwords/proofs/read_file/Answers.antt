@@ -13,8 +13,8 @@ returns-in-len1 c =
     file_one w (omega (arith, ltb-true, ltb-false))
     ∙ ap (λ (xs : List ℕ). cond (eqb (get_or w 0 0) 45) (Some xs) None) (sym c.clear.ensures.items)
 
-pub returns-in-default : goal.returns-in-default
-returns-in-default c =
+pub returns-in_default : goal.returns-in_default
+returns-in_default c =
     let w = c.args.word.now in
     let long : 1 < length w = omega (arith, ltb-false) in
     IfOk-weaker c.spell.result _ _ (λ all e. file_more w long ∙ e) c.spell.ensures

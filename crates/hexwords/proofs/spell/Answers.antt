@@ -25,12 +25,12 @@ loop-i-preserved c =
       omega (arith, c.push_reserved.ensures.capacity, c.loop-i.invariant.2),
     )
 
-pub returns-in-default : goal.returns-in-default
-returns-in-default c =
+pub returns-in_default : goal.returns-in_default
+returns-in_default c =
     let ds = c.args.digits.now in
     let i = c.loop-i.i in
     let inside : 2 * i + 1 < length ds = omega (arith, c.loop-i-test.true) in
-    sym c.loop-i.invariant.0 ∙ spelled_stop ds (vec_items c.loop-i.file) (2 * i) inside (sym c.in-default.ensures)
+    sym c.loop-i.invariant.0 ∙ spelled_stop ds (vec_items c.loop-i.file) (2 * i) inside (sym c.in_default.ensures)
 
 pub returns : goal.returns
 returns c =

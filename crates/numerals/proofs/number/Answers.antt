@@ -19,13 +19,13 @@ loop-b-preserved c =
       digit_small n (get_or w i 0) _ c.in-Some.ensures,
     )
 
-pub returns-in-default : goal.returns-in-default
-returns-in-default c =
+pub returns-in_default : goal.returns-in_default
+returns-in_default c =
     let w = c.args.word.now in
     let i = c.loop-b.b-index in
     let n = c.loop-b.n in
     let some : 0 < length w = omega arith in
-    sym (at_drop_more (number_from n) w i 0 c.loop-b-test.true ∙ digit_stop n (get_or w i 0) (drop _ w) c.in-default.ensures)
+    sym (at_drop_more (number_from n) w i 0 c.loop-b-test.true ∙ digit_stop n (get_or w i 0) (drop _ w) c.in_default.ensures)
     ∙ (c.loop-b.invariant.0 ∙ sym (number_some w some))
 
 pub returns : goal.returns

@@ -15,8 +15,8 @@ loop-i-preserved-then-word-i-ne44 c =
     let other = ne_eqb _ 44 c.if-word-i-ne44.true in
     (omega arith, ap (all_numbers (vec_items c.loop-i.numbers)) (sym (item_more w c.loop-i.start c.loop-i.i c.loop-i.invariant.0 c.loop-i-test.true other)) ∙ c.loop-i.invariant.1)
 
-pub returns-in-default : goal.returns-in-default
-returns-in-default c =
+pub returns-in_default : goal.returns-in_default
+returns-in_default c =
     let w = c.args.word.now in
     let xs = vec_items c.loop-i.numbers in
     let s = c.loop-i.start in
@@ -24,7 +24,7 @@ returns-in-default c =
     let comma = eq-eqb _ 44 c.if-word-i-ne44.false in
     sym c.loop-i.invariant.1
     ∙ (ap (all_numbers xs) (item_comma w s i c.loop-i-test.true comma)
-    ∙ numbers_stop xs (part w s i) (items_in (drop (i + 1) w)) (sym c.in-default.ensures))
+    ∙ numbers_stop xs (part w s i) (items_in (drop (i + 1) w)) (sym c.in_default.ensures))
 
 pub loop-i-preserved : goal.loop-i-preserved
 loop-i-preserved c =
@@ -48,14 +48,14 @@ ends w s i l m =
     let all : i ≡ length w = omega arith in
     item_last w s i l ∙ ap (λ (k : ℕ). part w s k ∷ []) all
 
-pub returns-in-default-number : goal.returns-in-default-number
-returns-in-default-number c =
+pub returns-in_default-number : goal.returns-in_default-number
+returns-in_default-number c =
     let w = c.args.word.now in
     let xs = vec_items c.loop-i.numbers in
     let s = c.loop-i.start in
     sym c.loop-i.invariant.1
     ∙ (ap (all_numbers xs) (ends w s c.loop-i.i c.loop-i-test.false c.loop-i.auto.i-end)
-    ∙ numbers_stop xs (part w s (length w)) [] (sym c.in-default-number.ensures))
+    ∙ numbers_stop xs (part w s (length w)) [] (sym c.in_default-number.ensures))
 
 pub returns : goal.returns
 returns c =

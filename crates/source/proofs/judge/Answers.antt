@@ -9,9 +9,9 @@ use Rattle.source.proofs.judge.Goals as goal
 opens : (n w : ℕ) (o : Option Op) → n ≡ part w 0 4 → o ≡ cond (ltb 12 n) None (Some (op_of n)) → o ≡ cond (ltb 12 (part w 0 4)) None (Some (op_of (part w 0 4)))
 opens n w o e h = h ∙ ap (λ (m : ℕ). cond (ltb 12 m) None (Some (op_of m))) e
 
-pub returns-in-default : goal.returns-in-default
-returns-in-default c =
-    judged_none _ _ _ _ _ (unknown_op (part c.args.word 0 4) (opens _ c.args.word None c.part.ensures.value c.in-default.ensures))
+pub returns-in_default : goal.returns-in_default
+returns-in_default c =
+    judged_none _ _ _ _ _ (unknown_op (part c.args.word 0 4) (opens _ c.args.word None c.part.ensures.value c.in_default.ensures))
 
 pub returns-then-not-spare : goal.returns-then-not-spare
 returns-then-not-spare c =

@@ -8,29 +8,29 @@ use Rattle.source.proofs.read.Goals as goal
 pub returns-in_err-head : goal.returns-in_err-head
 returns-in_err-head c =
     let bs = c.args.file.now in
-    let p = err_from_is_err_and c.from-residual.result c.from-residual.ensures.1 in
+    let p = err_from_is_err_and c.from_residual.result c.from_residual.ensures.1 in
     let header = rw c.over-reader.ensures.whole at c.in_err-head.ensures.headed in
-    read_err bs c.from-residual.result p.0 _ p.1 p.2 (reading_header bs _ header)
+    read_err bs c.from_residual.result p.0 _ p.1 p.2 (reading_header bs _ header)
 
 pub returns-in_err-classes : goal.returns-in_err-classes
 returns-in_err-classes c =
     let bs = c.args.file.now in
-    let p = err_from_is_err_and c.from-residual-in_err-classes.result c.from-residual-in_err-classes.ensures.1 in
+    let p = err_from_is_err_and c.from_residual-in_err-classes.result c.from_residual-in_err-classes.ensures.1 in
     let h = c.in_ok-head.ensures in
     let header = rw c.over-reader.ensures.whole at h.headed.0 in
     let class = rw (h.whole ∙ c.over-reader.ensures.whole) at c.in_err-classes.ensures.classed in
-    read_err bs c.from-residual-in_err-classes.result p.0 _ p.1 p.2 (reading_class bs _ header class)
+    read_err bs c.from_residual-in_err-classes.result p.0 _ p.1 p.2 (reading_class bs _ header class)
 
 pub returns-in_err-rows : goal.returns-in_err-rows
 returns-in_err-rows c =
     let bs = c.args.file.now in
-    let p = err_from_is_err_and c.from-residual-in_err-rows.result c.from-residual-in_err-rows.ensures.1 in
+    let p = err_from_is_err_and c.from_residual-in_err-rows.result c.from_residual-in_err-rows.ensures.1 in
     let h = c.in_ok-head.ensures in
     let k = c.in_ok-classes.ensures in
     let header = rw c.over-reader.ensures.whole at h.headed.0 in
     let class = rw (h.whole ∙ c.over-reader.ensures.whole) at k.classed.0 in
     let rows = rw (k.whole ∙ h.whole ∙ c.over-reader.ensures.whole) at c.in_err-rows.ensures in
-    read_err bs c.from-residual-in_err-rows.result p.0 _ p.1 p.2 (reading_rows bs _ header class rows)
+    read_err bs c.from_residual-in_err-rows.result p.0 _ p.1 p.2 (reading_rows bs _ header class rows)
 
 pub returns-then-shape : goal.returns-then-shape
 returns-then-shape c =

@@ -11,11 +11,11 @@ pub returns-in_err-classes : goal.returns-in_err-classes
 returns-in_err-classes c =
     let bs = c.args.reader.now.file.now in
     let b = c.in_err-classes.ensures in
-    let p = err_from_is_err_and c.from-residual.result c.from-residual.ensures.1 in
+    let p = err_from_is_err_and c.from_residual.result c.from_residual.ensures.1 in
     let here = sym (field_at _ bs _ (16 + 2 * c.loop-v.v) 2 2 c.loop-v.invariant.0 c.loop-v.invariant.1 refl) ∙ b.class.0 in
     record {
       whole = b.whole ∙ c.loop-v.invariant.0;
-      classed = classed_bad bs c.from-residual.result p.0 c.loop-v.v _ (classes_bad bs c.loop-v.v (omega (arith, c.requires.known, c.loop-v-test.true)) c.loop-v.invariant.2.small here) (p.2 ∙ b.class.1) p.1;
+      classed = classed_bad bs c.from_residual.result p.0 c.loop-v.v _ (classes_bad bs c.loop-v.v (omega (arith, c.requires.known, c.loop-v-test.true)) c.loop-v.invariant.2.small here) (p.2 ∙ b.class.1) p.1;
     }
 
 pub loop-v-preserved : goal.loop-v-preserved

@@ -7,14 +7,14 @@ use Rattle.source.proofs.read_header.Goals as goal
 pub returns-in_err-vars : goal.returns-in_err-vars
 returns-in_err-vars c =
     let a = c.in_err-vars.ensures in
-    let p = err_from_is_err_and c.from-residual.result c.from-residual.ensures.1 in
+    let p = err_from_is_err_and c.from_residual.result c.from_residual.ensures.1 in
     record { whole = a.whole; headed = headed_none c.args.reader.now.file.now _ p.0 _ (omega (arith, a.taken.0)) (p.2 ∙ a.taken.1) p.1 }
 
 pub returns-in_err-count : goal.returns-in_err-count
 returns-in_err-count c =
     let a = c.in_ok-vars.ensures in
     let b = c.in_err-count.ensures in
-    let p = err_from_is_err_and c.from-residual-in_err-count.result c.from-residual-in_err-count.ensures.1 in
+    let p = err_from_is_err_and c.from_residual-in_err-count.result c.from_residual-in_err-count.ensures.1 in
     let short : length c.args.reader.now.file.now < 2 = omega (arith, a.taken.2, b.taken.0, ap length a.whole) in
     record { whole = b.whole ∙ a.whole; headed = headed_none c.args.reader.now.file.now _ p.0 _ short (p.2 ∙ b.taken.1) p.1 }
 

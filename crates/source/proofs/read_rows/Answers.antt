@@ -15,9 +15,9 @@ pub returns-in_err-rows : goal.returns-in_err-rows
 returns-in_err-rows c =
     let bs = c.args.reader.now.file.now in
     let b = c.in_err-rows.ensures in
-    let p = err_from_is_err_and c.from-residual.result c.from-residual.ensures.1 in
+    let p = err_from_is_err_and c.from_residual.result c.from_residual.ensures.1 in
     let at = rw c.loop-i.invariant.0 at b.row in
-    rowed_err bs c.from-residual.result _ p.0 (rowed_bad bs c.loop-i.rows c.loop-i.i _ (omega (arith, c.requires.heads.count, c.loop-i-test.true)) c.loop-i.invariant.2 at) p.2 p.1
+    rowed_err bs c.from_residual.result _ p.0 (rowed_bad bs c.loop-i.rows c.loop-i.i _ (omega (arith, c.requires.heads.count, c.loop-i-test.true)) c.loop-i.invariant.2 at) p.2 p.1
 
 pub loop-i-preserved : goal.loop-i-preserved
 loop-i-preserved c =

@@ -21,7 +21,7 @@ invariant-of-p c =
 
 pub returns-in_err-source : goal.returns-in_err-source
 returns-in_err-source c =
-    let p = err_from_is_err_and c.from-residual.result c.from-residual.ensures.1 in
+    let p = err_from_is_err_and c.from_residual.result c.from_residual.ensures.1 in
     record {
       answer = search rules;
       fresh = λ h. absurd (let e = p.1 in let z : ◌≡◌ {A = ℕ} 0 1 = cc in omega arith);

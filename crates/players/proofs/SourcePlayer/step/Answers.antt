@@ -17,15 +17,15 @@ returns-in-Some c =
       steps = source_row s.player s.variables row.result x.result y.result row.ensures x.ensures y.ensures c.turn.new.self c.turn.new.slots (numbers_in c.put.new.numbers) c.turn.result none t wrote;
     }
 
-pub returns-in-default : goal.returns-in-default
-returns-in-default c =
+pub returns-in_default : goal.returns-in_default
+returns-in_default c =
     let s = c.args.self.now in
     let t = c.turn.ensures in
     let none : length c.turn.new.slots ≡ 0 = search rules in
     let row = c.current-row in
     let x = c.number_at-x in
     let y = c.number_at-y in
-    let kept = source_kept s.player s.variables row.result x.result y.result row.ensures x.ensures y.ensures c.turn.result c.in-default.is t.number in
+    let kept = source_kept s.player s.variables row.result x.result y.result row.ensures x.ensures y.ensures c.turn.result c.in_default.is t.number in
     record {
       rows = t.rows;
       steps = source_row s.player s.variables row.result x.result y.result row.ensures x.ensures y.ensures c.turn.new.self c.turn.new.slots (numbers_in s.variables) c.turn.result none t kept;
