@@ -1,5 +1,5 @@
 -- Admission: a file that can be read, whose rows are all reached and read only what is surely written.
-use Rattle.std.specs.Prelude.{ℕ, Bool, cond, not, List, length, Some, None, Ok, Err, Option, Result, nat_lt}
+use Rattle.std.specs.Prelude.{ℕ, cond, not, List, length, Some, None, Ok, Err, Option, Result, nat_lt}
 use Rattle.counting.specs.Counting.{least}
 use Rattle.faults.specs.declared.RowFault.{RowFault}
 use Rattle.faults.specs.declared.ProgramFault.{ProgramFault}

@@ -1,5 +1,5 @@
 -- The two kinds of facts that admit a program: which rows are reached, and which variables are surely written.
-use Rattle.std.specs.Prelude.{ℕ, suc, Bool, true, false, not, List, [], ◌∷◌, ◌==◌}
+use Rattle.std.specs.Prelude.{ℕ, suc, Bool, false, not, List, [], ◌∷◌, ◌==◌}
 use Rattle.sets.specs.Sets.{union, meet, minus, up_to}
 use Rattle.rows.specs.declared.Row.{Row}
 use Rattle.rows.specs.Rows.{next, reads, writes, set_of, row_at}

@@ -1,5 +1,5 @@
 -- The working memory lent to admission, and what it holds afterwards.
-use Rattle.std.specs.Prelude.{ℕ, Bool, cond, List, length, Some, None, Ok, Err, Option, Result, nat_lt}
+use Rattle.std.specs.Prelude.{ℕ, cond, List, length, Some, None, Ok, Err, Option, Result, nat_lt}
 use Rattle.sets.specs.declared.NodeSet.{NodeSet}
 use Rattle.sets.specs.Words.{cleared}
 use Rattle.faults.specs.declared.RowFault.{RowFault}

@@ -1,5 +1,5 @@
 -- The parts of the reader against what stands in the file.
-use Rattle.std.proofs.Common.{◌≡◌, ℕ, ◌+◌, ◌-◌, ◌*◌, ◌/◌, ◌<◌, ◌≤◌, min, Bool, true, false, cond, not, ◌&&◌, ◌||◌, eqb, ltb, leb, ◌⊎◌, List, map, length, get_or, set, replicate, Some, None, Ok, Err, Option, Result, sym, refl, ap, ◌∙◌, inl, inr, arith, length-set, get_or-set_other, get_or-set_same}
+use Rattle.std.proofs.Common.{◌≡◌, ℕ, ◌+◌, ◌-◌, ◌*◌, ◌/◌, ◌<◌, ◌≤◌, min, true, false, cond, not, ◌&&◌, ◌||◌, eqb, ltb, leb, List, map, length, get_or, set, replicate, Some, None, Ok, Err, Option, Result, sym, refl, ap, ◌∙◌, inl, inr, arith, length-set, get_or-set_other, get_or-set_same}
 use Rattle.std.specs.List.{range_with_len}
 use Rattle.std.proofs.lemmas.List.FromFn.{get_or-map-range_with_len, length-map-range_with_len}
 use Rattle.std.proofs.lemmas.List.{get_or_past, get_or-replicate}
@@ -14,7 +14,7 @@ use Rattle.rows.specs.declared.Op.{Op}
 use Rattle.rows.specs.declared.Row.{Row}
 use Rattle.rows.specs.Rows.{shape, op_of, fits}
 use Rattle.source.specs.declared.header.Header.{Header}
-use Rattle.source.specs.Bits.{field, Took}
+use Rattle.source.specs.Bits.{field}
 use Rattle.source.specs.Reading.{vars_in, count_in, class_in, classes_in, class_of, class_bytes, size_of, fill_in, counts_fault, header_fault, class_fault, part, row_by, row_of, spare, known, row_fault}
 use Rattle.source.specs.Results.{Counted, Headed, Classed}
 

@@ -1,5 +1,5 @@
 -- The rows of a file, one after another.
-use Rattle.std.proofs.Common.{◌≡◌, ℕ, ◌+◌, ◌-◌, ◌*◌, ◌<◌, ◌≤◌, Bool, true, false, cond, ltb, ◌⊎◌, List, map, length, get_or, take, set, is_some, Some, None, Ok, Err, Option, Result, sym, refl, ap, ◌∙◌, inl, inr, arith, length-set, get_or-set_other, get_or-set_same}
+use Rattle.std.proofs.Common.{◌≡◌, ℕ, ◌+◌, ◌-◌, ◌*◌, ◌<◌, ◌≤◌, true, false, List, map, length, get_or, take, set, is_some, Some, None, Ok, Err, Result, ap, ◌∙◌, inl, inr, arith, length-set, get_or-set_other, get_or-set_same}
 use mathlib.Core.Path.{fun_ext}
 use Rattle.std.specs.List.{range_with_len}
 use Rattle.std.proofs.lemmas.List.FromFn.{fill_by_all, get_or-map-range_with_len}
@@ -14,8 +14,7 @@ use Rattle.rows.specs.declared.Row.{Row}
 use Rattle.rows.specs.Rows.{shape, end_row, Program}
 use Rattle.source.specs.declared.header.Header.{Header}
 use Rattle.source.specs.declared.program.Source.{Source}
-use Rattle.source.specs.Bits.{field}
-use Rattle.source.specs.Reading.{vars_in, count_in, class_in, classes_in, class_of, row_place, word_in, row_in, fault_in, row_of, row_fault, header_fault, class_fault, rows_fault, last_fault, program_in, reading}
+use Rattle.source.specs.Reading.{vars_in, count_in, class_in, classes_in, class_of, row_place, word_in, row_in, fault_in, row_of, header_fault, class_fault, rows_fault, last_fault, program_in, reading}
 use Rattle.source.specs.Results.{Judged, Heads, RowNext, Rowed, program_by, as_program}
 
 -- what the loop over the rows knows after i of them

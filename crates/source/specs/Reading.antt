@@ -1,5 +1,5 @@
 -- Source files: what stands in one, and the first fault of one.
-use Rattle.std.specs.Prelude.{ℕ, ◌+◌, ◌-◌, ◌*◌, ◌/◌, ◌%◌, ◌^◌, Bool, true, false, cond, not, ◌&&◌, ◌||◌, List, [], ◌∷◌, map, length, is_some, Some, None, Ok, Err, Option, Result, ◌==◌, nat_eq, nat_le, nat_lt, slice_index}
+use Rattle.std.specs.Prelude.{ℕ, ◌+◌, ◌-◌, ◌*◌, ◌/◌, ◌%◌, ◌^◌, Bool, cond, not, ◌&&◌, ◌||◌, List, map, length, is_some, Some, None, Ok, Err, Option, Result, ◌==◌, nat_eq, nat_le, nat_lt, slice_index}
 use Rattle.std.specs.List.{range_with_len}
 use Rattle.counting.specs.Counting.{least}
 use Rattle.faults.specs.declared.BitFault.{BitFault}
@@ -8,7 +8,7 @@ use Rattle.faults.specs.declared.RowFault.{RowFault}
 use Rattle.faults.specs.declared.RowFault.TheVariants.{Bits, Opcode, Unused, Variable, Classes, Target, Last}
 use Rattle.rows.specs.declared.Op.{Op}
 use Rattle.rows.specs.declared.Row.{Row}
-use Rattle.rows.specs.Rows.{shape, op_of, fits, Program, row_at}
+use Rattle.rows.specs.Rows.{shape, op_of, fits, Program}
 use Rattle.source.specs.Bits.{field}
 
 -- ---- what stands in a file

@@ -1,5 +1,5 @@
 -- What the parts of the reader answer, by case.
-use Rattle.std.specs.Prelude.{◌≡◌, ℕ, ◌+◌, ◌*◌, ◌<◌, Bool, List, length, take, Some, None, Ok, Err, Result, slice_index, slice_index_or}
+use Rattle.std.specs.Prelude.{◌≡◌, ℕ, ◌+◌, ◌*◌, ◌<◌, List, length, take, Some, None, Ok, Err, Result, slice_index, slice_index_or}
 use Rattle.faults.specs.declared.BitFault.{BitFault}
 use Rattle.faults.specs.declared.BitFault.TheVariants.{Class}
 use Rattle.faults.specs.declared.RowFault.{RowFault}

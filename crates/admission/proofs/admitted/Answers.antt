@@ -1,10 +1,9 @@
-use Rattle.std.proofs.Common.{◌≡◌, List, Option, sym, refl, ap, ◌∙◌, arith}
+use Rattle.std.proofs.Common.{Option, refl, ap, arith}
 use Rattle.std.proofs.lemmas.Result.{err_from_is_err_and}
 use Rattle.faults.specs.declared.ProgramFault.{ProgramFault}
-use Rattle.sets.specs.declared.NodeSet.{NodeSet}
 use Rattle.source.specs.Results.{program_of}
 use Rattle.admission.specs.Admission.{faultless}
-use Rattle.admission.specs.Memory.{Parts, parts}
+use Rattle.admission.specs.Memory.{parts}
 use Rattle.admission.proofs.Judging.{roomy, part_emptied, answered_short, answered_unread, answered_read}
 use Rattle.admission.proofs.admitted.Goals as goal
 

@@ -1,4 +1,4 @@
-use Rattle.std.proofs.Common.{◌≡◌, sym, refl, ap, ◌∙◌, arith}
+use Rattle.std.proofs.Common.{◌∙◌}
 use Rattle.source.specs.Results.{program_of}
 use Rattle.admission.proofs.Judging.{fault_lost, fault_raw, fault_none, part_rows}
 use Rattle.admission.proofs.fact_fault.Goals as goal

@@ -1,7 +1,6 @@
-use Rattle.std.proofs.Common.{◌≡◌, ℕ, ◌<◌, ◌≤◌, Bool, true, false, not, List, length, sym, refl, ap, ◌∙◌, arith, below_more}
+use Rattle.std.proofs.Common.{◌≤◌, true, false, not, length, sym, refl, arith, below_more}
 use Rattle.counting.proofs.Searches.{least_is, least_none}
 use Rattle.facts.specs.Flow.{rows as rows_of}
-use Rattle.facts.specs.Solving.{Solved}
 use Rattle.admission.specs.Kinds.{reach, reached}
 use Rattle.admission.proofs.Ways.{nexts_length}
 use Rattle.admission.proofs.Judging.{settled, further, unreached_at}

@@ -1,4 +1,4 @@
-use Rattle.std.proofs.Common.{◌≡◌, ℕ, ◌+◌, ◌*◌, refl, ap, ◌∙◌, arith}
+use Rattle.std.proofs.Common.{ℕ, ap, ◌∙◌, arith}
 use Rattle.source.specs.Bits.{field}
 use Rattle.source.proofs.Rows.{row_next, row_room}
 use Rattle.source.proofs.next_row.Goals as goal

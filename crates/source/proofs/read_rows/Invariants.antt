@@ -1,4 +1,4 @@
-use Rattle.std.proofs.Common.{◌≡◌, ℕ, ◌+◌, ◌*◌}
+use Rattle.std.proofs.Common.{◌≡◌, ◌+◌, ◌*◌}
 use Rattle.source.specs.Reading.{row_place}
 use Rattle.source.proofs.Rows.{Rowing}
 use Rattle.source.proofs.read_rows.Given as goal

@@ -3,7 +3,7 @@ use Rattle.std.proofs.lemmas.Nat.{one_shl, pow_pos}
 use Rattle.registers.proofs.RunBits.{stored}
 use Rattle.registers.proofs.runs.store.Goals as goal
 
-pub nonzero_rem-below : goal.nonzero-rem-below
+pub nonzero_rem-below : goal.nonzero_rem-below
 nonzero_rem-below c = rw (one_shl c.args.run.low 128 (omega arith)) (pow_pos c.args.run.low)
 
 pub returns : goal.returns

@@ -1,4 +1,4 @@
-use Rattle.std.proofs.Common.{◌≡◌, ◌/◌, ◌^◌, ◌<◌, mod-lt, arith}
+use Rattle.std.proofs.Common.{◌/◌, ◌^◌, ◌<◌, mod-lt, arith}
 use lib.Bits.{and_mask}
 use Rattle.std.proofs.lemmas.Nat.{one_shl, pow_pos}
 use Rattle.source.proofs.bits.cut.Goals as goal

@@ -1,4 +1,4 @@
-use Rattle.std.proofs.Common.{◌≡◌, ℕ, suc, ◌+◌, ◌*◌, ◌^◌, ◌<◌, get_or, sym, ap, ◌∙◌, mod-eq_of_lt, add-one, arith, rules}
+use Rattle.std.proofs.Common.{◌≡◌, ◌+◌, ◌*◌, ◌<◌, get_or, mod-eq_of_lt, add-one, arith, rules}
 use Rattle.source.specs.Bits.{number}
 use Rattle.source.proofs.Fields.{number_none, number_more, number_lt}
 use Rattle.source.proofs.bits.number.Goals as goal

@@ -1,4 +1,4 @@
-use Rattle.std.proofs.Common.{◌≡◌, ℕ, ap, ◌∙◌}
+use Rattle.std.proofs.Common.{ℕ, ap, ◌∙◌}
 use Rattle.sets.specs.Sets.{union}
 use Rattle.sets.specs.Words.{members}
 use Rattle.rows.proofs.Fields.{members_empty}

@@ -1,5 +1,5 @@
-use Rattle.std.proofs.Common.{◌≡◌, ℕ, ◌+◌, ◌-◌, ◌*◌, ◌/◌, ◌%◌, ◌^◌, ◌≤◌, min, sym, refl, ap, ◌∙◌, arith}
-use Rattle.source.specs.Bits.{field, number}
+use Rattle.std.proofs.Common.{◌≡◌, ℕ, ◌+◌, ◌-◌, ◌*◌, ◌/◌, ◌%◌, ◌^◌, min, sym, refl, ap, ◌∙◌, arith}
+use Rattle.source.specs.Bits.{number}
 use Rattle.source.proofs.Fields.{field_window}
 use Rattle.source.proofs.bits.BitReader.take.Goals as goal
 
