@@ -1,5 +1,5 @@
 -- Emit: registers in place of variables.
-use Rattle.std.specs.Prelude.{ℕ, suc, Bool, cond, ◌&&◌, List, [], ◌∷◌, map, length, ◌==◌, slice_index}
+use Rattle.std.specs.Prelude.{ℕ, suc, Bool, cond, ◌&&◌, List, [], ◌∷◌, map, ◌==◌, slice_index}
 use Rattle.counting.specs.Counting.{range}
 use Rattle.sets.specs.Sets.{when}
 use Rattle.rows.specs.declared.Row.{Row}

@@ -1,5 +1,5 @@
 -- The program between its rounds, and the compiled program.
-use Rattle.std.specs.Prelude.{ℕ, suc, Bool, true, false, not, List, length, replicate, slice_index_or}
+use Rattle.std.specs.Prelude.{ℕ, Bool, true, false, not, List, length, replicate, slice_index_or}
 use Rattle.rows.specs.declared.Row.{Row}
 use Rattle.rows.specs.Rows.{Program}
 use Rattle.registers.specs.Model.{Model}

@@ -1,12 +1,12 @@
 -- Both shapes of kinds keep the laws, where their steps keep the order of sets and stay below 2 ^ n; and steps that do.
-use Rattle.std.proofs.Common.{◌≡◌, ℕ, zero, suc, ◌+◌, ◌-◌, ◌^◌, ◌<◌, ◌≤◌, Bool, true, false, not, ◌&&◌, ◌||◌, ltb, ◌⊎◌, List, sym, refl, ap, ◌∙◌, inl, inr, arith}
-use lib.Bits.{bit_and, bit_or, bit_xor, or_lt, and_lt, xor_lt, and_le_l}
+use Rattle.std.proofs.Common.{◌≡◌, ℕ, ◌^◌, ◌<◌, Bool, true, false, not, ltb, List, sym, ◌∙◌, inl, inr, arith}
+use lib.Bits.{bit_and, or_lt, and_lt, xor_lt, and_le_l}
 use Rattle.std.proofs.lemmas.Nat.{pow_pos, pow_below}
 use Rattle.std.proofs.lemmas.Bool.{cases_Bool, cases_lt, both_ways, or_cases, or_left, or_right, and_parts, and_from, lt-ltb, le-ltb, ltb-true}
-use Rattle.sets.specs.Sets.{has, single, union, meet, minus, up_to, when, within, size}
+use Rattle.sets.specs.Sets.{has, single, union, meet, minus, up_to, when, within}
 use Rattle.sets.proofs.Members.{has_union, has_minus, has_none, has_up_to}
 use Rattle.sets.proofs.Orders.{within_at, within_from, within_same, within_chain, within_both, union_left, union_right, union_lowest, meet_left, meet_right, meet_greatest, size_rises, size_capped}
-use Rattle.facts.specs.Flow.{Flow, Lawful}
+use Rattle.facts.specs.Flow.{Lawful}
 use Rattle.facts.specs.Shapes.{spreading, ensured}
 
 -- a step keeps the order of sets

@@ -1,10 +1,10 @@
 -- Sweeps from the least facts end in the least solution, whatever the order of the rows.
-use Rattle.std.proofs.Common.{◌≡◌, ℕ, zero, suc, ◌+◌, ◌-◌, ◌*◌, ◌<◌, ◌≤◌, Bool, true, false, cond, not, ◌||◌, eqb, ◌⊎◌, List, [], ◌∷◌, map, length, get_or, drop, set, replicate, sym, refl, ap, ◌∙◌, subst, inl, inr, add-one, arith, length-set}
+use Rattle.std.proofs.Common.{◌≡◌, ℕ, zero, suc, ◌+◌, ◌-◌, ◌*◌, ◌<◌, ◌≤◌, Bool, true, false, cond, not, ◌||◌, eqb, ◌⊎◌, List, [], ◌∷◌, length, get_or, drop, set, replicate, sym, refl, ap, ◌∙◌, subst, inl, inr, arith, length-set}
 use Rattle.std.proofs.lemmas.List.{get_or-set_same, get_or-set_other, get_or-replicate, get_or_past, set-get_or, set_past, length-replicate, drop_more, drop_all}
-use Rattle.std.proofs.lemmas.Bool.{cases_Bool, cases_lt, cases_eq, cond-true, cond-false, cond_both, both_ways, or_parts, or_cases, not-true, not-false, eqb-true, eqb-false, eq-eqb}
+use Rattle.std.proofs.lemmas.Bool.{cases_lt, cases_eq, cond-true, cond-false, cond_both, both_ways, or_parts, or_cases, not-true, not-false, eqb-true, eqb-false}
 use Rattle.counting.specs.Counting.{sum, range, down}
 use Rattle.counting.proofs.Sums.{sum_le, sum_ext}
-use Rattle.facts.specs.Flow.{Flow, Lawful, Least, Solves, Closed, Sweep, rows, feeders, turns, enters, at, gather, incoming, yields, sweep, solve, solved}
+use Rattle.facts.specs.Flow.{Flow, Lawful, Least, Solves, Sweep, rows, feeders, turns, enters, at, gather, incoming, yields, sweep, solve, solved}
 
 -- a list written at one place, read at another
 set_at : (P : ℕ → Type 0) (xs : List ℕ) (i x j d : ℕ) → (j ≡ i → P x) → P (get_or xs j d) → P (get_or (set xs i x) j d)

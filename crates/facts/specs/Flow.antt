@@ -1,5 +1,5 @@
 -- Facts that flow along the rows of a program: their equations, the sweeps that solve them, and the laws that make the answer the least.
-use Rattle.std.specs.Prelude.{◌≡◌, ℕ, zero, suc, ◌+◌, ◌-◌, ◌*◌, ◌<◌, ◌≤◌, Bool, true, false, cond, not, ◌||◌, List, [], ◌∷◌, map, length, set, replicate, ◌==◌, ◌≢◌, slice_index_or, slice_set}
+use Rattle.std.specs.Prelude.{◌≡◌, ℕ, zero, suc, ◌+◌, ◌-◌, ◌*◌, ◌<◌, ◌≤◌, Bool, true, false, cond, not, ◌||◌, List, [], ◌∷◌, map, length, replicate, ◌==◌, ◌≢◌, slice_index_or, slice_set}
 use Rattle.counting.specs.Counting.{range, down}
 
 -- a kind of fact over the rows of a program; a fact is a set, so one number

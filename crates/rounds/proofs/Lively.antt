@@ -1,12 +1,12 @@
 -- Liveness keeps the laws of its shape, so what is solved is the least solution.
-use Rattle.std.proofs.Common.{◌≡◌, ℕ, ◌^◌, ◌<◌, true, ltb, List, [], ◌∷◌, inl, inr, arith}
+use Rattle.std.proofs.Common.{ℕ, ◌^◌, ◌<◌, true, ltb, List, [], ◌∷◌, inl, inr}
 use lib.Bits.{or_lt}
 use Rattle.std.proofs.lemmas.Nat.{pow_pos, pow_below}
 use Rattle.std.proofs.lemmas.Bool.{cases_lt, lt-ltb, le-ltb}
-use Rattle.sets.specs.Sets.{union, single, when}
+use Rattle.sets.specs.Sets.{single, when}
 use Rattle.rows.specs.declared.Row.{Row}
 use Rattle.rows.specs.Rows.{reads, writes, set_of, row_at}
-use Rattle.facts.specs.Flow.{Flow, Lawful, Least}
+use Rattle.facts.specs.Flow.{Lawful}
 use Rattle.facts.proofs.Laws.{spreading_lawful, made_steady, made_inside}
 use Rattle.facts.proofs.Sweeping.{solved_least}
 use Rattle.admission.specs.Kinds.{nexts}

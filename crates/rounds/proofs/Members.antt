@@ -1,7 +1,7 @@
 -- The sets of a graph, asked by their members.
-use Rattle.std.proofs.Common.{◌≡◌, ℕ, zero, suc, ◌<◌, Bool, true, false, cond, not, ◌&&◌, ◌||◌, eqb, ltb, ◌⊎◌, List, [], ◌∷◌, sym, refl, ap, ◌∙◌, inl, inr, arith}
+use Rattle.std.proofs.Common.{◌≡◌, ℕ, zero, suc, Bool, false, cond, ◌&&◌, ◌||◌, eqb, ltb, List, [], ◌∷◌, refl, ap, ◌∙◌, inl, inr, arith}
 use Rattle.std.proofs.lemmas.Bool.{cases_Bool, cases_eq, cases_lt, eq-eqb, ne_eqb, lt-ltb, le-ltb}
-use Rattle.sets.specs.Sets.{has, union, single, when}
+use Rattle.sets.specs.Sets.{has, single, when}
 use Rattle.sets.proofs.Members.{has_union, has_single, has_none, has_when}
 use Rattle.rounds.specs.Interference.{Reason, near}
 use Rattle.rounds.specs.Round.{those}

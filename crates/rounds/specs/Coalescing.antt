@@ -1,5 +1,5 @@
 -- Coalescing: the two ends of a copy become one node where that costs no colour.
-use Rattle.std.specs.Prelude.{ℕ, zero, suc, min, max, Bool, cond, not, ◌&&◌, ◌||◌, List, [], ◌∷◌, map, length, set, ◌==◌, nat_lt, slice_index_or, slice_set}
+use Rattle.std.specs.Prelude.{ℕ, zero, suc, min, max, Bool, cond, not, ◌&&◌, ◌||◌, List, [], ◌∷◌, map, length, ◌==◌, nat_lt, slice_index_or, slice_set}
 use Rattle.counting.specs.Counting.{least}
 use Rattle.sets.specs.Sets.{has, single, union, minus}
 use Rattle.rows.specs.declared.Row.{Row}

@@ -1,5 +1,5 @@
 -- A round: liveness, interference, coalescing, simplify, select.
-use Rattle.std.specs.Prelude.{ℕ, zero, suc, Bool, true, false, cond, not, ◌&&◌, List, [], ◌∷◌, map, length, ◌==◌, nat_lt}
+use Rattle.std.specs.Prelude.{ℕ, zero, suc, Bool, false, cond, not, ◌&&◌, List, [], ◌∷◌, map, length, ◌==◌, nat_lt}
 use Rattle.counting.specs.Counting.{sum, range}
 use Rattle.sets.specs.Sets.{has, single, union, when, size}
 use Rattle.rows.specs.declared.Row.{Row}

@@ -1,13 +1,11 @@
 -- Who is a member of a union, a meet and the other sets made of sets; sets with the same members are equal.
-use Rattle.std.proofs.Common.{◌≡◌, ℕ, zero, suc, ◌+◌, ◌-◌, ◌*◌, ◌/◌, ◌%◌, ◌^◌, ◌<◌, ◌≤◌, Bool, true, false, cond, not, ◌&&◌, ◌||◌, eqb, ltb, ◌⊎◌, sym, refl, ap, ◌∙◌, inl, inr, mod-lt, pow-suc, div-one, mul-div_cancel, arith, lit<}
+use Rattle.std.proofs.Common.{◌≡◌, ℕ, zero, suc, ◌+◌, ◌/◌, ◌%◌, ◌^◌, ◌<◌, ◌≤◌, Bool, true, false, not, ◌&&◌, ◌||◌, eqb, ltb, ◌⊎◌, sym, refl, ap, ◌∙◌, inl, inr, mod-lt, pow-suc, div-one, mul-div_cancel, arith, lit<}
 use native.Mathlib.Nat.{zero-div, mul-mod_left, div-eq_of_lt}
 use lib.Bits.{bit_and, bit_or, bit_xor, or_shr, or_mod, and_shr, and_mod, xor_shr, xor_mod}
-use lib.Count.{count_trailing_zeros, under}
+use lib.Count.{count_trailing_zeros}
 use lib.Dec.{eqb-suc-suc, eqb-suc-zero, eqb-zero-suc}
 use Rattle.std.proofs.lemmas.Nat.{shr-shr, shr_below, pow_pos, pow_below}
-use Rattle.std.proofs.lemmas.Bool.{cases_Bool, cases_lt, cases_eq, lt-ltb, le-ltb, both_ways}
-use Rattle.counting.specs.Counting.{least}
-use Rattle.counting.proofs.Searches.{least_is, least_none}
+use Rattle.std.proofs.lemmas.Bool.{cases_lt, cases_eq, lt-ltb, le-ltb}
 use Rattle.sets.specs.Sets.{has, single, union, meet, minus, up_to, when}
 
 two : (n : ℕ) → n < 2 → (n ≡ 0) ⊎ (n ≡ 1)

@@ -1,12 +1,12 @@
 -- From the words of a node set to the set that they hold.
-use Rattle.std.proofs.Common.{◌≡◌, ℕ, zero, suc, ◌+◌, ◌-◌, ◌*◌, ◌/◌, ◌%◌, ◌^◌, ◌<◌, ◌≤◌, min, Bool, true, false, ◌&&◌, eqb, ltb, leb, ◌⊎◌, List, [], ◌∷◌, ◌++◌, length, get_or, drop, set, replicate, sym, refl, ap, ◌∙◌, inl, inr, arith, length-set, get_or-set_other, get_or-set_same, pow-add}
+use Rattle.std.proofs.Common.{◌≡◌, ℕ, zero, suc, ◌+◌, ◌-◌, ◌*◌, ◌/◌, ◌%◌, ◌^◌, ◌<◌, ◌≤◌, min, Bool, false, ◌&&◌, eqb, leb, List, [], ◌∷◌, ◌++◌, length, get_or, drop, set, replicate, sym, refl, ap, ◌∙◌, inl, inr, arith, length-set, get_or-set_other, get_or-set_same, pow-add}
 use lib.Bits.{bit_and, bit_or, bit_xor, or_mod, and_mod, xor_mod, or_block, and_block, xor_block, or_lt, and_lt}
 use lib.Count.{count_trailing_zeros}
 use lib.Pow.{high, low, field, mod-mod-pow}
 use Rattle.std.proofs.lemmas.Nat.{pow_pos, pow_below, mod_below, shr_high}
 use Rattle.std.proofs.lemmas.Bool.{cases_lt, cases_eq, eq-eqb, ne_eqb, lt-ltb, le-ltb, le-leb, lt-leb, and_right, and_from}
 use Rattle.counting.specs.Counting.{least}
-use Rattle.counting.proofs.Searches.{least_is, least_none}
+use Rattle.counting.proofs.Searches.{least_is}
 use Rattle.sets.specs.Sets.{has, up_to}
 use Rattle.sets.specs.Words.{joined}
 use Rattle.sets.proofs.Members.{has_none, has_shr, has_union, has_single, has_up_to, same_members, lowest_below, lowest_is}

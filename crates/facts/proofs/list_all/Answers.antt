@@ -1,4 +1,4 @@
-use Rattle.std.proofs.Common.{◌≡◌, ℕ, ◌<◌, ◌≤◌, min, length, sym, refl, ap, ◌∙◌, arith}
+use Rattle.std.proofs.Common.{min, length, arith}
 use Rattle.facts.proofs.Memory.{partly_none, partly_more, partly_all}
 use Rattle.facts.proofs.list_all.Goals as goal
 

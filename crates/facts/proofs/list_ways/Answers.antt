@@ -1,4 +1,4 @@
-use Rattle.std.proofs.Common.{◌≡◌, ℕ, ◌<◌, ◌≤◌, [], length, get_or, take, sym, refl, ap, ◌∙◌, arith}
+use Rattle.std.proofs.Common.{◌<◌, ◌≤◌, [], length, get_or, arith}
 use Rattle.std.proofs.lemmas.List.{take_all}
 use Rattle.facts.proofs.Memory.{listing_none, listing_more}
 use Rattle.facts.proofs.list_ways.Goals as goal

@@ -1,4 +1,4 @@
-use Rattle.std.proofs.Common.{◌≡◌, ap, ◌∙◌, arith}
+use Rattle.std.proofs.Common.{ap, ◌∙◌, arith}
 use Rattle.sets.specs.Words.{joined, members}
 use Rattle.facts.proofs.Memory.{sets_at, sets_past}
 use Rattle.facts.proofs.set_at.Goals as goal

@@ -1,4 +1,4 @@
-use Rattle.std.proofs.Common.{◌≡◌, ℕ, ◌*◌, ◌<◌, ◌≤◌, true, false, List, length, sym, refl, ap, ◌∙◌, subst, arith}
+use Rattle.std.proofs.Common.{◌≡◌, true, false, sym, ap, ◌∙◌, subst, arith}
 use Rattle.sets.specs.Words.{sets_of}
 use Rattle.facts.specs.Flow.{rows, feeders, turns, sweep, solved}
 use Rattle.facts.proofs.Memory.{fill_more, fill_all}

@@ -1,4 +1,4 @@
-use Rattle.std.proofs.Common.{◌≡◌, ℕ, ◌<◌, ◌≤◌, false, length, sym, ap, ◌∙◌, arith}
+use Rattle.std.proofs.Common.{◌<◌, ◌≤◌, false, length, ◌∙◌, arith}
 use Rattle.sets.specs.Words.{sets_of}
 use Rattle.facts.specs.Flow.{rows, feeders, turns, sweep}
 use Rattle.facts.proofs.Sweeping.{turns_length, turn_below, sweep_more, sweep_end}

@@ -1,4 +1,4 @@
-use Rattle.std.proofs.Common.{◌≡◌, ℕ, ◌≤◌, not, eqb, List, length, set, sym, ap, ◌∙◌, ap₂, arith}
+use Rattle.std.proofs.Common.{◌≡◌, ◌≤◌, not, eqb, List, length, set, ap, ◌∙◌, ap₂, arith}
 use Rattle.std.proofs.lemmas.List.{map-set, take_all}
 use Rattle.sets.specs.declared.NodeSet.{NodeSet}
 use Rattle.sets.specs.Words.{members, sets_of}

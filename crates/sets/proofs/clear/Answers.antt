@@ -1,5 +1,4 @@
-use Rattle.std.proofs.Common.{◌≡◌, ℕ, ◌<◌, List, length, set, ap, ◌∙◌, add-one, arith}
-use Rattle.sets.specs.declared.NodeSet.{NodeSet}
+use Rattle.std.proofs.Common.{◌≡◌, ℕ, ap, ◌∙◌, add-one, arith}
 use Rattle.sets.specs.Words.{cleared, empty_set}
 use Rattle.sets.proofs.Words.{cleared_more}
 use Rattle.sets.proofs.clear.Goals as goal

@@ -12,8 +12,8 @@ loop-i-preserved c =
     let lt : c.loop-i.i < length xs = search rules in
     (simp length-set c.loop-i.invariant.0, copied_more xs c.loop-i.rows c.loop-i.i end_row lt (omega arith) c.loop-i.invariant.1)
 
-pub invariant-of-result : goal.invariant-of-result
-invariant-of-result c =
+pub invariant_of-result : goal.invariant_of-result
+invariant_of-result c =
     let s = c.args.script in
     let e : take (length s.rows.now) c.loop-i.rows ≡ s.rows.now = copied_all s.rows.now c.loop-i.rows c.loop-i.i (omega arith) c.loop-i.invariant.1 in
     (s.few, (c.loop-i.invariant.0, (subst Inside (sym e) s.inside, (subst Classed (sym e) s.classed, (s.some, tt)))))

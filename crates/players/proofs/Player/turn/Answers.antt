@@ -7,8 +7,8 @@ use Rattle.players.specs.Playing.{numbers_in, shared_of, rows_of, leads}
 use Rattle.players.proofs.Effects.{leads_inside}
 use Rattle.players.proofs.Player.turn.Goals as goal
 
-pub invariant-of-self : goal.invariant-of-self
-invariant-of-self c =
+pub invariant_of-self : goal.invariant_of-self
+invariant_of-self c =
     let p = c.args.self.now in
     let x = c.args.x in
     let y = c.args.y in

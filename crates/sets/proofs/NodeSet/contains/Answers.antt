@@ -1,4 +1,4 @@
-use Rattle.std.proofs.Common.{◌≡◌, ℕ, ◌/◌, ◌%◌, ◌^◌, ◌≤◌, eqb, length, get_or, sym, ap, ◌∙◌, arith}
+use Rattle.std.proofs.Common.{ℕ, ◌/◌, ◌%◌, ◌^◌, ◌≤◌, eqb, length, get_or, sym, ap, ◌∙◌, arith}
 use lib.Bits.{and_mask}
 use Rattle.std.proofs.lemmas.List.{get_or_past}
 use Rattle.sets.specs.Sets.{has}

@@ -1,4 +1,4 @@
-use Rattle.std.proofs.Common.{◌≡◌, ℕ, ◌^◌, ◌<◌, get_or, sym, ◌∙◌, mod-eq_of_lt, arith, rules}
+use Rattle.std.proofs.Common.{◌^◌, ◌<◌, get_or, sym, ◌∙◌, mod-eq_of_lt, arith, rules}
 use Rattle.std.proofs.lemmas.Bool.{eq-eqb, ne_eqb}
 use Rattle.sets.proofs.Words.{joined_ext, joined_words}
 use Rattle.sets.proofs.NodeSet.equals.Goals as goal

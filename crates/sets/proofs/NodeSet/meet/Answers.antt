@@ -1,4 +1,4 @@
-use lib.Bits.{bit_or, bit_and, bit_xor}
+use lib.Bits.{bit_and}
 use Rattle.std.proofs.Common.{arith}
 use Rattle.sets.proofs.Words.{wordwise, and_wordly}
 use Rattle.sets.proofs.NodeSet.meet.Goals as goal

@@ -1,4 +1,4 @@
-use lib.Bits.{bit_or, bit_and, bit_xor}
+use lib.Bits.{bit_and, bit_xor}
 use Rattle.std.proofs.Common.{arith}
 use Rattle.sets.proofs.Words.{wordwise, minus_wordly}
 use Rattle.sets.proofs.NodeSet.minus.Goals as goal

@@ -1,8 +1,8 @@
-use Rattle.std.proofs.Common.{◌≡◌, ℕ, ◌+◌, ◌-◌, ◌*◌, ◌/◌, ◌%◌, ◌^◌, ◌<◌, ◌≤◌, false, get_or, sym, ap, ◌∙◌, arith, rules}
+use Rattle.std.proofs.Common.{◌≡◌, ◌+◌, ◌-◌, ◌*◌, ◌/◌, ◌%◌, ◌^◌, ◌<◌, get_or, arith, rules}
 use Rattle.std.proofs.lemmas.Nat.{shr_below}
 use Rattle.counting.proofs.Searches.{least_none}
 use Rattle.sets.specs.Words.{joined}
-use Rattle.sets.proofs.Words.{after, below_from, piece_found, piece_passed, word_piece, rest_piece}
+use Rattle.sets.proofs.Words.{below_from, piece_found, piece_passed, word_piece, rest_piece}
 use Rattle.sets.proofs.NodeSet.next.Goals as goal
 
 pub returns-then-from-ge7 : goal.returns-then-from-ge7

@@ -1,4 +1,4 @@
-use lib.Bits.{bit_or, bit_and, bit_xor}
+use lib.Bits.{bit_or}
 use Rattle.sets.proofs.Words.{Wordwise}
 use Rattle.sets.proofs.NodeSet.union.Given as goal
 
