@@ -1,14 +1,14 @@
 -- A call on a stage is one that the rules allow.
-use Rattle.std.proofs.Common.{◌≡◌, ℕ, zero, suc, Bool, true, false, cond, ◌⊎◌, sym, refl, ap, ◌∙◌, subst, inl, inr}
+use Rattle.std.proofs.Common.{◌≡◌, ℕ, zero, suc, true, false, cond, sym, refl, ap, ◌∙◌, subst, inl, inr}
 use Rattle.std.proofs.lemmas.Bool.{cases_Bool, cond-true, cond-false}
 use Rattle.rows.specs.declared.Row.{Row}
 use Rattle.rows.specs.Rows.{row_at}
 use Rattle.registers.specs.Model.{Model, Written}
 use Rattle.registers.specs.Runs.{held, patched}
 use Rattle.registers.proofs.RunBits.{Wired, written}
-use Rattle.machine.specs.Players.{Player, running, at, writes_now, next_row, Steps, Runs}
-use Rattle.machine.specs.Rehearsal.{Call, Restart, PlaySource, PlayCode, serves, Does, Served}
-use Rattle.machine.specs.OnBits.{OnBits, stepped_on, run_on, rows_on, Stage, Answered, served_on, called_on, Holds, Allowed}
+use Rattle.machine.specs.Players.{running, at, writes_now, Steps, Runs}
+use Rattle.machine.specs.Rehearsal.{Call, Restart, PlaySource, PlayCode, serves, Does}
+use Rattle.machine.specs.OnBits.{OnBits, stepped_on, run_on, rows_on, Stage, served_on, called_on, Holds, Allowed}
 
 module _ (m : Model) (low : ℕ → ℕ) (wired : Wired m low) where
   -- the numbers of a player are those of its bits

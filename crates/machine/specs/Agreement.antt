@@ -1,5 +1,5 @@
 -- Agreement: what a compiled program promises of every rehearsal.
-use Rattle.std.specs.Prelude.{◌≡◌, ℕ, ◌*◌, ◌≤◌, Bool, true, false, ◌⊎◌, List, ◌++◌, Ok}
+use Rattle.std.specs.Prelude.{◌≡◌, ℕ, ◌*◌, ◌≤◌, false, ◌⊎◌, List, ◌++◌, Ok}
 use Rattle.registers.specs.Model.{Model, Lawful}
 use Rattle.compiling.specs.Working.{Compiled}
 use Rattle.compiling.specs.Compile.{compile_with}

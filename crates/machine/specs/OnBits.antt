@@ -1,5 +1,5 @@
 -- A rehearsal on a chip whose registers are runs in one row of bits: one of the ways that the rules leave open, and one that can be computed.
-use Rattle.std.specs.Prelude.{◌≡◌, ℕ, zero, suc, Bool, cond, Ok, Err, Result}
+use Rattle.std.specs.Prelude.{◌≡◌, ℕ, zero, suc, cond, Ok, Err, Result}
 use Rattle.faults.specs.declared.PlayerFault.{PlayerFault}
 use Rattle.rows.specs.declared.Row.{Row}
 use Rattle.rows.specs.Rows.{row_at}
@@ -7,7 +7,7 @@ use Rattle.registers.specs.Model.{Model}
 use Rattle.registers.specs.Runs.{held, patched}
 use Rattle.machine.specs.declared.Played.{Played}
 use Rattle.machine.specs.Machine.{effect}
-use Rattle.machine.specs.Players.{Player, running, at, writes_now, next_row, Steps, run, rows_played}
+use Rattle.machine.specs.Players.{Player, running, at, writes_now, next_row, run, rows_played}
 use Rattle.machine.specs.Rehearsal.{Rehearsal, Call, Restart, PlaySource, PlayCode, serves, fault_of, restarted, with_source, with_code, Does}
 
 -- a code player, and the bits that its registers are runs of
