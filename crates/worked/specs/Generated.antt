@@ -1,5 +1,5 @@
 -- Files made by the generator of reference/, each with the answer that the reference gives. Made by scripts/make-agreement.
-use Rattle.std.specs.Prelude.{◌≡◌, true, false, List, [], ◌∷◌}
+use Rattle.std.specs.Prelude.{◌≡◌, true, false, [], ◌∷◌}
 use Rattle.faults.specs.Refusals.{told}
 use Rattle.faults.specs.declared.Layer.TheVariants.{Bits as BitLayer, Rows as RowLayer, Program as ProgramLayer}
 use Rattle.rows.specs.declared.Op.TheVariants.{End, Const, Copy, Add, Sub, And, Xor, Widen, Narrow, Input, Output, Jump, Less, Load, Store}
@@ -7,7 +7,7 @@ use Rattle.counting.specs.Counting.{range}
 use Rattle.chips.specs.NestedChip.{nested, nested_file}
 use Rattle.chips.specs.PairedChip.{paired, paired_file}
 use Rattle.compiling.specs.Compile.{compile}
-use Rattle.worked.specs.Telling.{Told, Coded, Refused, tells, code, in_register, in_slot}
+use Rattle.worked.specs.Telling.{Coded, Refused, tells, code, in_register, in_slot}
 use Rattle.machine.specs.Rehearsal.{Restart, PlaySource, PlayCode}
 use Rattle.worked.specs.Showing.{Shows, rehearse, served, long_input, many_rows}
 

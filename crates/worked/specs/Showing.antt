@@ -13,7 +13,7 @@ use Rattle.compiling.specs.Working.{Compiled}
 use Rattle.compiling.specs.Compile.{compile}
 use Rattle.machine.specs.declared.Played.{Played}
 use Rattle.machine.specs.Rehearsal.{Call, opened, Event, Counts, no_counts, tally}
-use Rattle.machine.specs.OnBits.{Stage, Answered, called_on}
+use Rattle.machine.specs.OnBits.{Stage, called_on}
 
 -- the bits of a chip after each register below n was written a number of its own
 unfoldable pub garbage : Model → (low : ℕ → ℕ) → ℕ → ℕ

@@ -7,7 +7,7 @@ use Rattle.chips.specs.NestedChip.{nested, nested_file}
 use Rattle.chips.specs.PairedChip.{paired, paired_file}
 use Rattle.compiling.specs.Compile.{compile}
 use Rattle.machine.specs.Rehearsal.{Call, Restart, PlaySource, PlayCode}
-use Rattle.worked.specs.Telling.{Told, Coded, Refused, tells, code, in_register, in_slot}
+use Rattle.worked.specs.Telling.{Coded, Refused, tells, code, in_register, in_slot}
 use Rattle.worked.specs.Showing.{outputs, answered, counts, served, long_input, many_rows}
 
 -- end
