@@ -1,4 +1,4 @@
-use Rattle.std.proofs.Common.{◌≡◌, ℕ, Bool, List, [], ◌∷◌, ◌++◌, vec_items, codes, decimal, sym, ap, ◌∙◌, arith}
+use Rattle.std.proofs.Common.{Bool, ◌∷◌, ◌++◌, vec_items, codes, decimal, sym, ap, ◌∙◌, arith}
 use Rattle.printing.specs.Texts.{item}
 use Rattle.printing.proofs.Lists.{mark_text}
 use Rattle.printing.proofs.Numbers.{digits_half}
