@@ -2,8 +2,7 @@ ghost use Rattle.std.specs.Prelude.{◌≡◌, ◌%◌, ◌^◌, ◌<◌};
 ghost use Rattle.registers.specs.Model.{Written};
 ghost use Rattle.registers.specs.Runs.{Leaves};
 ghost use Rattle.chips.specs.NestedChip.{nested_file, nested_low, nested_numbers, NestedParts};
-ghost use Rattle.chips.specs.ChipLaws.{nested_lawful};
-ghost use Rattle.std.proofs.Common.{rules};
+ghost use Rattle.chips.specs.ChipLaws.{nested_lawful, nested_below};
 
 use registers::runs::{Run, fetch, store};
 use registers::{Bank, RegisterFile};
@@ -78,7 +77,7 @@ impl RegisterFile for Nested {
 impl Bank for Nested {
     ghost contents = { λ x. nested_numbers x.bits };
 
-    ghost below = { Prim.search rules };
+    ghost below = { λ x. nested_below x.bits };
 
     fn read(&self, r: usize) -> u32
         ensures number { (result ≡ nested_numbers self.now.bits r) × (result < 2 ^ nested_file.width r) }

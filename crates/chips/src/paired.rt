@@ -2,8 +2,7 @@ ghost use Rattle.std.specs.Prelude.{◌≡◌, ◌%◌, ◌^◌, ◌<◌};
 ghost use Rattle.registers.specs.Model.{Written};
 ghost use Rattle.registers.specs.Runs.{Leaves};
 ghost use Rattle.chips.specs.PairedChip.{pair, paired_file, paired_low, paired_numbers, PairedWords};
-ghost use Rattle.chips.specs.ChipLaws.{paired_lawful};
-ghost use Rattle.std.proofs.Common.{rules};
+ghost use Rattle.chips.specs.ChipLaws.{paired_lawful, paired_below};
 
 use registers::runs::{Run, fetch, store};
 use registers::{Bank, RegisterFile};
@@ -93,7 +92,7 @@ impl RegisterFile for Paired {
 impl Bank for Paired {
     ghost contents = { λ x. paired_numbers x.bits };
 
-    ghost below = { Prim.search rules };
+    ghost below = { λ x. paired_below x.bits };
 
     fn read(&self, r: usize) -> u32
         ensures number { (result ≡ paired_numbers self.now.bits r) × (result < 2 ^ paired_file.width r) }

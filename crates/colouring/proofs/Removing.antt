@@ -9,7 +9,7 @@ use Rattle.sets.proofs.Members.{has_meet, has_minus, has_single}
 use Rattle.registers.specs.Model.{Model}
 use Rattle.rounds.specs.declared.Removed.{Removed}
 use Rattle.rounds.specs.declared.Offer.{Offer}
-use Rattle.rounds.specs.Interference.{Graph, neighbours, class_at}
+use Rattle.rounds.specs.Interference.{Graph, neighbours}
 use Rattle.rounds.specs.Pressure.{pressure, passes}
 use Rattle.rounds.specs.Simplify.{remaining, removable, no_offer, better, cheapest, next_removed, removals}
 use Rattle.colouring.specs.Selecting.{Proper, listed, later, Rightly, Orderly}

@@ -3,7 +3,6 @@ use Rattle.std.proofs.Common.{◌≡◌, ℕ, ◌<◌, Bool, true, false, cond, 
 use lib.ListN.{length-replicate, get_or-replicate}
 use Rattle.std.proofs.lemmas.List.{get_or_past, set_past}
 use Rattle.std.proofs.lemmas.Bool.{cases_lt, cases_eq, both_ways, and_from, and_parts, or_left, or_right, not-true, not_from_false, eq-eqb, ne_eqb, ltb-true, cond-true}
-use Rattle.counting.specs.Counting.{any}
 use Rattle.counting.proofs.Searches.{any_none}
 use Rattle.sets.specs.Sets.{has}
 use Rattle.registers.specs.Model.{Model, Lawful}

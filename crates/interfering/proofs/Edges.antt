@@ -1,17 +1,17 @@
 -- Edges are made by rows: reasons, and the sets of neighbours gathered from them.
-use Rattle.std.proofs.Common.{◌≡◌, ℕ, zero, suc, ◌+◌, ◌-◌, ◌^◌, ◌<◌, ◌≤◌, Bool, true, false, cond, not, ◌&&◌, ◌||◌, eqb, ltb, ◌⊎◌, List, [], ◌∷◌, ◌++◌, map, length, get_or, sym, refl, ap, ◌∙◌, subst, ap₂, inl, inr, arith}
+use Rattle.std.proofs.Common.{◌≡◌, ℕ, zero, suc, ◌+◌, ◌<◌, ◌≤◌, Bool, true, false, cond, not, ◌&&◌, ◌||◌, eqb, ltb, ◌⊎◌, List, [], ◌∷◌, map, length, get_or, sym, refl, ap, ◌∙◌, subst, inl, inr, arith}
 use Rattle.std.proofs.lemmas.List.{get_or_past}
-use Rattle.std.proofs.lemmas.Bool.{cases_Bool, cases_lt, cases_eq, both_ways, or_cases, or_left, or_right, and_parts, and_cases, and_from, eq-eqb, ne_eqb, eqb-true, eqb-false, lt-ltb, not-true, not-false, not_from_false}
+use Rattle.std.proofs.lemmas.Bool.{cases_Bool, cases_lt, both_ways, or_cases, or_left, or_right, and_parts, and_from, ne_eqb, eqb-true, eqb-false, lt-ltb, not-true, not_from_false}
 use Rattle.counting.specs.Counting.{range}
-use Rattle.sets.specs.Sets.{has, single, union, minus, when}
+use Rattle.sets.specs.Sets.{has, single, minus, when}
 use Rattle.sets.proofs.Members.{has_union, has_minus, has_none, has_single, has_when}
 use Rattle.rows.specs.declared.Row.{Row}
-use Rattle.rows.specs.Rows.{copies, shape, only, reads, writes, set_of, row_at}
+use Rattle.rows.specs.Rows.{copies, shape, only, reads, set_of, row_at}
 use Rattle.facts.specs.Flow.{holds}
 use Rattle.rounds.specs.Liveness.{live_after}
-use Rattle.rounds.specs.Interference.{Reason, reason, reasons, near, Graph, beside, neighbours, node_at, interference}
+use Rattle.rounds.specs.Interference.{Reason, reason, reasons, near, beside, neighbours, interference}
 use Rattle.interfering.specs.Living.{read_at, written_at, lives_after}
-use Rattle.interfering.specs.Edges.{Meets, copies_from, Clashes, Neighbours, Hard, Names, Proper, Interferes}
+use Rattle.interfering.specs.Edges.{Meets, Clashes, Neighbours, Hard, Names, Proper, Interferes}
 use Rattle.interfering.proofs.Living.{has_set_of, table_at, table_length, writes_inside, after_long, after_below, after_only, live_holds}
 
 -- ---- reasons

@@ -1,19 +1,19 @@
 -- Liveness is the least answer to its equations, and so the ways on which a variable is read before it is written.
-use Rattle.std.proofs.Common.{◌≡◌, ℕ, zero, suc, ◌+◌, ◌-◌, ◌^◌, ◌<◌, ◌≤◌, Bool, true, false, cond, not, ◌&&◌, ◌||◌, eqb, ltb, ◌⊎◌, List, [], ◌∷◌, map, length, get_or, sym, refl, ap, ◌∙◌, subst, inl, inr, arith}
+use Rattle.std.proofs.Common.{◌≡◌, ℕ, zero, suc, ◌+◌, ◌-◌, ◌^◌, ◌<◌, ◌≤◌, Bool, true, false, not, ◌&&◌, ◌||◌, eqb, ltb, ◌⊎◌, List, [], ◌∷◌, map, length, get_or, sym, refl, ap, ◌∙◌, subst, inl, inr, arith}
 use lib.Bits.{or_lt}
 use Rattle.std.proofs.lemmas.Nat.{pow_pos}
-use Rattle.std.proofs.lemmas.List.{get_or_past, length-map}
+use Rattle.std.proofs.lemmas.List.{get_or_past}
 use Rattle.std.proofs.lemmas.Bool.{cases_Bool, cases_lt, cases_eq, both_ways, or_cases, or_left, or_right, and_parts, and_cases, and_from, eq-eqb, ne_eqb, eqb-true, lt-ltb, ltb-true, not-true, not_from_false}
 use Rattle.counting.specs.Counting.{range}
 use Rattle.sets.specs.Sets.{has, single, union, minus, when}
 use Rattle.sets.proofs.Members.{has_union, has_minus, has_none, has_single, has_when, has_past}
 use Rattle.rows.specs.declared.Row.{Row}
 use Rattle.rows.specs.Rows.{next, reads, writes, set_of, row_at, end_row}
-use Rattle.facts.specs.Flow.{Flow, Lawful, rows as rows_of, holds, feeders, at, gather, incoming, yields, enters, solved}
+use Rattle.facts.specs.Flow.{Lawful, rows as rows_of, holds, feeders, at, gather, incoming, yields, enters, solved}
 use Rattle.facts.proofs.Laws.{spreading_lawful, made_steady, made_inside, single_inside}
 use Rattle.facts.proofs.Sweeping.{solved_least, solved_holds, solved_facts, solved_length}
 use Rattle.facts.proofs.Memory.{feeders_backward}
-use Rattle.admission.specs.Kinds.{nexts, nexts_from}
+use Rattle.admission.specs.Kinds.{nexts}
 use Rattle.admission.proofs.Ways.{nexts_length, nexts_at}
 use Rattle.rounds.specs.Liveness.{liveness, live_before, live_after}
 use Rattle.interfering.specs.Living.{read_at, written_at, goes_on, lives_before, lives_after, Awaits, Lives}

@@ -1,24 +1,23 @@
 -- Nothing is live before row 0 where every row reads only what is surely written.
-use Rattle.std.proofs.Common.{◌≡◌, ℕ, zero, suc, ◌+◌, ◌-◌, ◌^◌, ◌<◌, ◌≤◌, Bool, true, false, cond, not, ◌&&◌, ◌||◌, eqb, ltb, ◌⊎◌, List, [], ◌∷◌, map, length, get_or, Some, None, Ok, Err, Option, Result, sym, refl, ap, ◌∙◌, subst, inl, inr, arith}
-use Rattle.std.proofs.lemmas.Bool.{cases_Bool, cases_lt, cases_eq, both_ways, or_cases, or_left, or_right, and_parts, and_cases, and_from, eq-eqb, ne_eqb, eqb-true, lt-ltb, le-ltb, ltb-true, not-true, not-false, not_from_false}
-use Rattle.counting.specs.Counting.{range, least}
-use Rattle.counting.proofs.Searches.{least_below, least_le}
-use Rattle.sets.specs.Sets.{has, union, meet, minus, up_to}
+use Rattle.std.proofs.Common.{◌≡◌, ℕ, ◌+◌, ◌<◌, true, false, not, ◌&&◌, eqb, ltb, List, [], ◌∷◌, length, get_or, Some, None, Ok, Err, Option, Result, sym, refl, ap, ◌∙◌, subst, inl, inr, arith}
+use Rattle.std.proofs.lemmas.Bool.{cases_Bool, cases_lt, both_ways, or_cases, and_parts, and_cases, and_from, eqb-true, lt-ltb, le-ltb, not-false}
+use Rattle.counting.specs.Counting.{least}
+use Rattle.counting.proofs.Searches.{least_below}
+use Rattle.sets.specs.Sets.{has, meet, minus, up_to}
 use Rattle.sets.proofs.Members.{has_union, has_meet, has_minus, has_none}
 use Rattle.faults.specs.declared.RowFault.{RowFault}
 use Rattle.faults.specs.declared.ProgramFault.{ProgramFault}
 use Rattle.faults.specs.declared.ProgramFault.TheVariants.{Unreached, Unwritten}
 use Rattle.rows.specs.declared.Row.{Row}
-use Rattle.rows.specs.Rows.{next, reads, writes, set_of, row_at, Program}
+use Rattle.rows.specs.Rows.{reads, writes, set_of, row_at, Program}
 use Rattle.source.specs.Reading.{reading}
-use Rattle.facts.specs.Flow.{Flow, rows as rows_of, holds, comers, feeders, at, gather, incoming, solved}
+use Rattle.facts.specs.Flow.{rows as rows_of, holds, comers, feeders, at, gather, incoming, solved}
 use Rattle.facts.proofs.Sweeping.{solved_least}
 use Rattle.facts.proofs.Walking.{holds_comers}
 use Rattle.admission.specs.Kinds.{nexts, initialisation, written_before, reached, sure}
 use Rattle.admission.specs.Admission.{fact_fault, faultless, judged, admitting}
 use Rattle.admission.specs.Laws.{initialisation_lawful}
 use Rattle.admission.proofs.Ways.{nexts_length, nexts_at}
-use Rattle.rounds.specs.Liveness.{live_before}
 use Rattle.interfering.specs.Living.{read_at, written_at, goes_on, lives_before, AllSure}
 use Rattle.interfering.proofs.Living.{has_set_of, table_at, reads_inside, goes_inside, live_below, live_holds}
 

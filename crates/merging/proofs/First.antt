@@ -1,9 +1,9 @@
 -- An admitted program names only its own variables, and copies within a class.
-use Rattle.std.proofs.Common.{◌≡◌, ℕ, zero, suc, ◌+◌, ◌<◌, ◌≤◌, Bool, true, false, cond, not, ◌&&◌, ◌||◌, eqb, ltb, ◌⊎◌, List, [], ◌∷◌, ◌++◌, map, length, get_or, is_some, Some, None, Ok, Err, Option, Result, sym, refl, ap, ◌∙◌, subst, inl, inr, arith}
+use Rattle.std.proofs.Common.{◌≡◌, ℕ, ◌<◌, Bool, true, false, cond, not, ◌||◌, ltb, ◌⊎◌, List, ◌++◌, map, length, is_some, Some, None, Ok, Err, Option, Result, sym, refl, ap, ◌∙◌, subst, inl, inr, arith}
 use Rattle.std.specs.List.{range_with_len}
 use Rattle.std.proofs.lemmas.List.FromFn.{get_or-map-range_with_len, length-map-range_with_len}
 use Rattle.std.proofs.lemmas.List.{get_or_past}
-use Rattle.std.proofs.lemmas.Bool.{cases_Bool, cases_lt, both_ways, and_parts, lt-ltb, ltb-true, eqb-true}
+use Rattle.std.proofs.lemmas.Bool.{cases_lt, both_ways, and_parts, lt-ltb, ltb-true, eqb-true}
 use Rattle.std.proofs.lemmas.Bool.Decides.{nat_tests}
 use Rattle.counting.specs.Counting.{least}
 use Rattle.counting.proofs.Searches.{least_below, least_found}
@@ -11,13 +11,11 @@ use Rattle.sets.specs.Sets.{has}
 use Rattle.faults.specs.declared.BitFault.{BitFault}
 use Rattle.faults.specs.declared.RowFault.{RowFault}
 use Rattle.rows.specs.declared.Op.{Op}
-use Rattle.rows.specs.declared.Op.TheVariants.{Copy}
 use Rattle.rows.specs.declared.Row.{Row}
 use Rattle.rows.specs.Rows.{shape, only, copies, fits, reads, writes, end_row, row_at, Program}
 use Rattle.source.specs.Reading.{vars_in, count_in, classes_in, class_in, class_of, word_in, row_in, row_of, part, spare, known, row_fault, fault_in, header_fault, class_fault, rows_fault, last_fault, program_in, decided, reading}
 use Rattle.facts.specs.Flow.{holds}
 use Rattle.admission.specs.Admission.{admitting}
-use Rattle.interfering.specs.Living.{read_at, written_at}
 use Rattle.interfering.specs.Edges.{Names, Named}
 use Rattle.interfering.proofs.Living.{reads_inside, writes_inside}
 use Rattle.interfering.proofs.Starting.{admitted_read}

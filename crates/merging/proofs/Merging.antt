@@ -1,19 +1,18 @@
 -- Merges one after another keep nodes, classes and edges in order, and no hard edge inside a node.
-use Rattle.std.proofs.Common.{◌≡◌, ℕ, zero, suc, ◌+◌, ◌-◌, ◌<◌, ◌≤◌, min, max, Bool, true, false, cond, not, ◌&&◌, ◌||◌, eqb, ltb, ◌⊎◌, List, [], ◌∷◌, map, length, get_or, set, sym, refl, ap, ◌∙◌, subst, ap₂, inl, inr, arith}
-use Rattle.std.proofs.lemmas.List.{get_or_past, get_or-map, get_or_default, length-map}
-use Rattle.std.proofs.lemmas.Bool.{cases_Bool, cases_lt, cases_eq, both_ways, or_cases, or_parts, or_left, or_right, and_parts, and_from, and_left, and_right, eq-eqb, ne_eqb, eqb-true, eqb-false, lt-ltb, le-ltb, not-true, not_from_false, cond_both, cond-true, cond-false}
+use Rattle.std.proofs.Common.{◌≡◌, ℕ, zero, suc, ◌<◌, ◌≤◌, min, max, Bool, true, false, not, ◌&&◌, ◌||◌, eqb, List, map, length, get_or, sym, refl, ap, ◌∙◌, subst, inl, inr, arith}
+use Rattle.std.proofs.lemmas.List.{get_or_past, get_or-map, length-map}
+use Rattle.std.proofs.lemmas.Bool.{cases_Bool, cases_lt, cases_eq, both_ways, or_parts, and_parts, and_from, eq-eqb, ne_eqb, eqb-false, lt-ltb, le-ltb, not-true}
 use Rattle.counting.specs.Counting.{least}
 use Rattle.counting.proofs.Searches.{least_found}
-use Rattle.sets.specs.Sets.{has, single, union, minus}
-use Rattle.sets.proofs.Members.{has_minus, has_none, has_single}
+use Rattle.sets.specs.Sets.{has, single, minus}
+use Rattle.sets.proofs.Members.{has_minus, has_single}
 use Rattle.registers.specs.Model.{Model}
 use Rattle.rounds.specs.declared.Ends.{Ends}
 use Rattle.rounds.specs.Interference.{Graph, beside, neighbours, class_at, node_at}
-use Rattle.rounds.specs.Pressure.{passes}
-use Rattle.rounds.specs.Coalescing.{contracted, merged, heavy, mergeable, no_ends, first_mergeable, coalesced}
+use Rattle.rounds.specs.Coalescing.{contracted, merged, mergeable, no_ends, first_mergeable, coalesced}
 use Rattle.interfering.specs.Edges.{Proper}
-use Rattle.merging.specs.Merging.{Joins, AllJoin, Unmerged, Between, Gathers, Coalesces}
-use Rattle.merging.proofs.Contracting.{Contracts, contracts, contracted_long, moved, moved_high, moved_other, gathers_only, gathers_each}
+use Rattle.merging.specs.Merging.{Joins, AllJoin, Unmerged, Gathers, Coalesces}
+use Rattle.merging.proofs.Contracting.{contracts, contracted_long, moved, moved_high, moved_other, gathers_only, gathers_each}
 
 -- what each merge keeps up, o being the graph before the first
 pub record Kept (vars : ℕ) (o g : Graph) : Type 0 where

@@ -1,6 +1,6 @@
 -- The merged graph of a round.
-use Rattle.std.proofs.Common.{◌≡◌, ℕ, zero, suc, ◌<◌, ◌≤◌, Bool, true, false, cond, ◌&&◌, ◌||◌, eqb, ltb, ◌⊎◌, List, [], ◌∷◌, length, get_or, sym, refl, ap, ◌∙◌, subst, inl, inr, arith}
-use Rattle.std.proofs.lemmas.Bool.{cases_Bool, both_ways, or_left, and_parts, eq-eqb, ltb-true}
+use Rattle.std.proofs.Common.{◌≡◌, ℕ, zero, suc, ◌<◌, true, false, ◌&&◌, ltb, List, [], ◌∷◌, length, get_or, sym, refl, ap, ◌∙◌, inl, inr, arith}
+use Rattle.std.proofs.lemmas.Bool.{cases_Bool, both_ways, and_parts, eq-eqb, ltb-true}
 use Rattle.sets.specs.Sets.{has}
 use Rattle.rows.specs.declared.Op.{Op}
 use Rattle.rows.specs.declared.Op.TheVariants.{End, Const, Copy, Add, Sub, And, Xor, Widen, Narrow, Input, Output, Jump, Less, Load, Store}
@@ -10,13 +10,12 @@ use Rattle.facts.specs.Flow.{holds}
 use Rattle.registers.specs.Model.{Model}
 use Rattle.rounds.specs.declared.Ends.{Ends}
 use Rattle.rounds.specs.Liveness.{live_after}
-use Rattle.rounds.specs.Interference.{Graph, beside, class_at, node_at, interference}
-use Rattle.rounds.specs.Coalescing.{copies_in, no_ends, coalesced}
+use Rattle.rounds.specs.Interference.{node_at, interference}
+use Rattle.rounds.specs.Coalescing.{copies_in, no_ends}
 use Rattle.rounds.specs.Round.{graph_of}
-use Rattle.interfering.specs.Living.{read_at, written_at}
 use Rattle.interfering.specs.Edges.{Names, Proper, Hard}
 use Rattle.interfering.proofs.Edges.{interferes, proper as rows-proper}
-use Rattle.merging.specs.Merging.{Joins, AllJoin, Coalesces, Alike}
+use Rattle.merging.specs.Merging.{AllJoin, Coalesces, Alike}
 use Rattle.merging.proofs.Merging.{merging_keeps}
 
 -- the one opcode that copies

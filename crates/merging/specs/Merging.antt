@@ -1,5 +1,5 @@
 -- What merging keeps: nodes, their members, and the edges between them.
-use Rattle.std.specs.Prelude.{◌≡◌, ℕ, ◌<◌, ◌≤◌, Bool, true, false, ◌&&◌, List, length, Ok, ◌==◌, ◌≢◌, nat_lt, slice_index, slice_index_or}
+use Rattle.std.specs.Prelude.{◌≡◌, ℕ, ◌<◌, ◌≤◌, true, false, ◌&&◌, List, length, Ok, ◌==◌, ◌≢◌, nat_lt, slice_index, slice_index_or}
 use Rattle.sets.specs.Sets.{has}
 use Rattle.rows.specs.declared.Row.{Row}
 use Rattle.rows.specs.Rows.{copies, row_at, Program}
@@ -7,7 +7,7 @@ use Rattle.admission.specs.Admission.{admitting}
 use Rattle.registers.specs.Model.{Model}
 use Rattle.rounds.specs.declared.Ends.{Ends}
 use Rattle.rounds.specs.Liveness.{live_after}
-use Rattle.rounds.specs.Interference.{Graph, beside, neighbours, class_at, node_at, interference}
+use Rattle.rounds.specs.Interference.{Graph, beside, class_at, node_at, interference}
 use Rattle.rounds.specs.Coalescing.{no_ends, coalesced}
 use Rattle.rounds.specs.Round.{graph_of}
 use Rattle.interfering.specs.Edges.{Names, Proper, Hard}

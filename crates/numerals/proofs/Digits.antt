@@ -1,6 +1,6 @@
 -- A number, digit by digit.
 use Rattle.std.proofs.Common.{◌≡◌, ℕ, ◌+◌, ◌-◌, ◌*◌, ◌^◌, ◌<◌, ◌≤◌, Bool, true, false, cond, ◌&&◌, ltb, ◌⊎◌, List, [], ◌∷◌, length, Some, None, Option, sym, refl, ap, ◌∙◌, inl, inr, arith}
-use Rattle.std.proofs.lemmas.Bool.{cases_Bool, and_right, cond-true, cond-false, ltb-true, ltb-false, lt-ltb, le-ltb}
+use Rattle.std.proofs.lemmas.Bool.{and_right, cond-true, cond-false, ltb-true, ltb-false, lt-ltb, le-ltb}
 use Rattle.numerals.specs.Numerals.{is_digit, all_digits, value_from, number_from, number_in}
 
 -- more digits make no number smaller

@@ -1,5 +1,5 @@
 -- Worked cases of words that write numbers.
-use Rattle.std.proofs.Common.{◌≡◌, List, [], ◌∷◌, Some, None, codes, refl}
+use Rattle.std.proofs.Common.{◌≡◌, [], ◌∷◌, Some, None, codes, refl}
 use Rattle.numerals.specs.Numerals.{all_digits, value_from, number_in, items_in, numbers_of, numbers_in}
 
 zeros_in_front : number_in (codes "00007") ≡ Some 7

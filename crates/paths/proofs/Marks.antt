@@ -5,7 +5,7 @@ use Rattle.std.proofs.lemmas.Bool.{cases_lt, cases_eq, both_ways, or_cases, or_l
 use Rattle.counting.specs.Counting.{range}
 use Rattle.rows.specs.declared.Row.{Row}
 use Rattle.rows.specs.Rows.{next, row_at}
-use Rattle.facts.specs.Flow.{Flow, Lawful, rows, holds, comers, feeders, at, enters, gather, incoming, yields, solved}
+use Rattle.facts.specs.Flow.{Flow, Lawful, rows, holds, comers, feeders, at, enters, gather, incoming, solved}
 use Rattle.facts.proofs.Sweeping.{solved_holds, solved_least}
 use Rattle.facts.proofs.Walking.{holds_comers}
 use Rattle.paths.specs.Paths.{Leads}

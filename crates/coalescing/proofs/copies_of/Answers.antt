@@ -7,7 +7,7 @@ use Rattle.rounds.specs.Coalescing.{copies_in}
 use Rattle.coalescing.specs.declared.Copies.{Copies}
 use Rattle.coalescing.proofs.Copying.{ends_of, copies_yes, copies_no}
 use Rattle.coalescing.proofs.copies_of.Goals as goal
-use Rattle.coalescing.proofs.copies_of.Goals.{then-is-copy, else-is-copy}
+use Rattle.coalescing.proofs.copies_of.Goals.{then-is_copy, else-is_copy}
 
 pub loop-i-init : goal.loop-i-init
 unfolding copies_in
@@ -25,13 +25,13 @@ loop-i-preserved c =
     let n = c.loop-i.copies.count in
     let l : i < length rows = c.loop-i-test.true in
     elim c.if-is_copy.branch [
-      | then-is-copy w ↦ (let here : n < length ends = omega (arith, c.loop-i.invariant.1, c.loop-i.invariant.2, c.args.lines.few) in
+      | then-is_copy w ↦ (let here : n < length ends = omega (arith, c.loop-i.invariant.1, c.loop-i.invariant.2, c.args.lines.few) in
           subst (Kept c.args.source rows (i + 1)) (sym w.copies-is) (
             take_more_set ends n (ends_of (get_or rows i end_row)) here ∙ ap (λ (cs : List Ends). cs ++ ends_of (get_or rows i end_row) ∷ []) c.loop-i.invariant.0 ∙ sym (copies_yes c.args.source rows i end_row l (sym w.if-is_copy.ensures)),
             omega (arith, c.loop-i.invariant.1),
             simp length-set c.loop-i.invariant.2,
           ))
-      | else-is-copy w ↦ subst (Kept c.args.source rows (i + 1)) (sym w.copies-is) (
+      | else-is_copy w ↦ subst (Kept c.args.source rows (i + 1)) (sym w.copies-is) (
         c.loop-i.invariant.0 ∙ sym (copies_no c.args.source rows i end_row l (sym w.if-is_copy.ensures)),
         omega (arith, c.loop-i.invariant.1),
         c.loop-i.invariant.2,

@@ -26,8 +26,8 @@ loop-i-init g c =
       refl,
     )
 
-pub overflow-cast-registers : goal.overflow-cast-registers
-overflow-cast-registers g c =
+pub overflow_cast-registers : goal.overflow_cast-registers
+overflow_cast-registers g c =
     let m = g.F.RegisterFile.model c.args.file.now in
     let few = (g.met.F.RegisterFile.lawful c.args.file.now).few in
     let class = get_or c.args.classes.now (get_or c.args.order.now (c.loop-i.i - 1) no_removed).node 0 in

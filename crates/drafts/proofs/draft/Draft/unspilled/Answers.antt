@@ -6,7 +6,7 @@ use Rattle.compiling.specs.Working.{unspilled, spilled}
 use Rattle.drafts.specs.Drafts.{working_of}
 use Rattle.drafts.proofs.Chosen.{those_with, those_same}
 use Rattle.drafts.proofs.draft.Draft.unspilled.Goals as goal
-use Rattle.drafts.proofs.draft.Draft.unspilled.Goals.{then-not-is-spilled, else-not-is-spilled}
+use Rattle.drafts.proofs.draft.Draft.unspilled.Goals.{then-not-is_spilled, else-not-is_spilled}
 
 pub loop-v-init : goal.loop-v-init
 unfolding joined those
@@ -17,9 +17,9 @@ loop-v-preserved c =
     let d = c.args.self.now in
     let t : ℕ → Bool = λ v. not (spilled (working_of d).places v) in
     elim c.if-not-is_spilled.branch [
-      | then-not-is-spilled w ↦
+      | then-not-is_spilled w ↦
           those_with t c.loop-v.v (members c.loop-v.set) (members c.if-not-is_spilled.set) c.loop-v.invariant (ap not (sym c.is_spilled.ensures ∙ w.if-not-is_spilled.true)) (omega (arith, d.few)) (ap members w.set-is ∙ w.with-set.ensures)
-      | else-not-is-spilled w ↦
+      | else-not-is_spilled w ↦
           those_same t c.loop-v.v (members c.loop-v.set) (members c.if-not-is_spilled.set) c.loop-v.invariant (ap not (sym c.is_spilled.ensures ∙ w.if-not-is_spilled.false)) (ap members w.set-is)
     ]
 
