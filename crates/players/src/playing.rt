@@ -1,5 +1,5 @@
 pub mod code;
-pub mod source;
+pub mod source_player;
 
 ghost use Rattle.std.specs.Prelude.{◌≡◌, ℕ, suc, ◌%◌, ◌^◌, ◌<◌, ◌≤◌, true, ◌&&◌, [], length, if◌then◌else◌, Some, None, slice_set};
 ghost use Rattle.rows.specs.Rows.{shape as shape_of, bits, row_at};

@@ -16,7 +16,7 @@ pub invariant_of-result : goal.invariant_of-result
 invariant_of-result c =
     let s = c.args.script in
     let e : take (length s.rows.now) c.loop-i.rows ≡ s.rows.now = copied_all s.rows.now c.loop-i.rows c.loop-i.i (omega arith) c.loop-i.invariant.1 in
-    (s.few, (c.loop-i.invariant.0, (subst Inside (sym e) s.inside, (subst Classed (sym e) s.classed, (s.some, tt)))))
+    record { few = s.few; whole = c.loop-i.invariant.0; inside = subst Inside (sym e) s.inside; classed = subst Classed (sym e) s.classed; stands = s.some }
 
 pub returns : goal.returns
 returns c =

@@ -20,4 +20,4 @@ invariant_of-self c =
     let e : c.leads-self.result ≡ leads r (effect r x y h) p.row =
     c.leads-self.ensures ∙ ap (λ (z : Effect). leads c.current-row.result z p.row) c.effect-turn.ensures ∙ ap (λ (z : Row). leads z (effect z x y h) p.row) c.current-row.ensures in
     let goes : c.leads-self.result < p.count = omega arith in
-    (p.few, (p.whole, (p.inside, (p.classed, (goes, tt)))))
+    record { few = p.few; whole = p.whole; inside = p.inside; classed = p.classed; stands = goes }
