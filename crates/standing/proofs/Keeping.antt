@@ -1,26 +1,26 @@
 -- What stands before a round that spills stands after it.
-use Rattle.std.proofs.Common.{◌≡◌, ℕ, zero, suc, ◌+◌, ◌-◌, ◌*◌, ◌<◌, ◌≤◌, Bool, true, false, cond, ◌&&◌, ◌⊎◌, List, [], ◌∷◌, ◌++◌, map, length, get_or, sym, refl, ap, ◌∙◌, subst, inl, inr, arith}
-use Rattle.std.proofs.lemmas.Bool.{cases_Bool, cases_lt, cases_eq, and_parts, and_right, cond-true, cond-false, both_ways, true≢false}
-use Rattle.counting.specs.Counting.{sum, count}
+use Rattle.std.proofs.Common.{◌≡◌, ℕ, zero, suc, ◌+◌, ◌-◌, ◌*◌, ◌<◌, ◌≤◌, Bool, true, false, ◌&&◌, ◌⊎◌, List, [], length, get_or, sym, refl, ap, ◌∙◌, subst, inl, inr, arith}
+use Rattle.std.proofs.lemmas.Bool.{cases_Bool, cases_lt, and_parts, and_right, cond-true, cond-false, both_ways, true≢false}
+use Rattle.counting.specs.Counting.{sum}
 use Rattle.counting.proofs.Sums.{sum_mono, sum_le, count_le}
 use Rattle.sets.specs.Sets.{has}
 use Rattle.rows.specs.declared.Op.{Op}
-use Rattle.rows.specs.declared.Op.TheVariants.{End, Load, Store}
+use Rattle.rows.specs.declared.Op.TheVariants.{End}
 use Rattle.rows.specs.declared.Row.{Row}
-use Rattle.rows.specs.Rows.{shape, copies, Program, row_at}
+use Rattle.rows.specs.Rows.{shape, copies, row_at}
 use Rattle.rounds.specs.Round.{Outcome}
 use Rattle.compiling.specs.declared.Place.{Place}
 use Rattle.compiling.specs.Working.{Working, spilled}
 use Rattle.compiling.specs.Blocks.{assembled}
-use Rattle.compiling.specs.Spill.{Order, slot_in, spill_order, slots_after, places_spilled}
+use Rattle.compiling.specs.Spill.{Order, spill_order, places_spilled}
 use Rattle.compiling.specs.Rewrite.{class_in, inner, rewritten}
-use Rattle.simulation.specs.Static.{row_of, class_of, slot_of, Inner, Stands}
-use Rattle.standing.specs.Standing.{bit, source_rows, line_of, Filled, Named, spare, Standing, Spills, starts_after, RewrittenStands, Bounded, StandingBounded, JumpsInside, StandingStands}
+use Rattle.simulation.specs.Static.{row_of, Inner}
+use Rattle.standing.specs.Standing.{bit, source_rows, line_of, Filled, Named, spare, Standing, Spills, RewrittenStands, StandingBounded, JumpsInside, StandingStands}
 use Rattle.standing.proofs.Lines.{locate, one_part}
 use Rattle.standing.proofs.Parts as parts
 use Rattle.standing.proofs.Parts.{la, lb, sd, before, spread, names, spread_in, names_in, bit_true, bit_false, new_index}
-use Rattle.standing.proofs.Round.{Fresh, not_now, was_out, stays_out, slot_stays, stays_in, filled', grows, gone', n', ends_above}
-use Rattle.standing.proofs.Sources.{sound, present, step, rises, starts_inside, high, starts_le, spare_le}
+use Rattle.standing.proofs.Round.{Fresh, not_now, stays_out, slot_stays, stays_in, filled', grows, gone', n', ends_above}
+use Rattle.standing.proofs.Sources.{sound, present, starts_inside, high, starts_le, spare_le}
 use Rattle.standing.proofs.Slots.{fresh, low, places_length, slot_below_lem, slots_count}
 
 and_rest : (x y : Bool) → x ≡ true → (x && y) ≡ false → y ≡ false

@@ -1,11 +1,10 @@
 -- Lists in a line: where each begins, and what stands at each place.
-use Rattle.std.proofs.Common.{◌≡◌, ℕ, zero, suc, ◌+◌, ◌-◌, ◌<◌, ◌≤◌, Bool, true, false, cond, ◌&&◌, eqb, ltb, ◌⊎◌, List, [], ◌∷◌, ◌++◌, map, length, get_or, sym, refl, ap, ◌∙◌, inl, inr, add-zero, add_assoc, add-suc, zero-add, arith}
-use Rattle.std.proofs.lemmas.List.{get_or_append_left, get_or-append-add, length-append, get_or-map}
-use Rattle.std.proofs.lemmas.Bool.{cases_Bool, cases_lt, cases_eq, cases_order, lt-ltb, le-ltb, eq-eqb, ne_eqb, ltb-true, and_parts, and_from}
-use Rattle.std.proofs.lemmas.Bool.Decides.{nat_tests}
+use Rattle.std.proofs.Common.{◌≡◌, ℕ, zero, suc, ◌+◌, ◌<◌, ◌≤◌, Bool, true, cond, ◌&&◌, eqb, ltb, List, [], ◌∷◌, length, get_or, refl, ap, ◌∙◌, inl, inr, add-zero, add_assoc, add-suc, zero-add, arith}
+use Rattle.std.proofs.lemmas.List.{get_or_append_left, get_or-append-add, length-append}
+use Rattle.std.proofs.lemmas.Bool.{cases_Bool, cases_lt, cases_eq, cases_order, lt-ltb, le-ltb, eq-eqb, ne_eqb}
 use Rattle.counting.specs.Counting.{sum, count, range}
-use Rattle.counting.proofs.Sums.{sum_ext, sum_mono}
-use Rattle.sets.specs.Sets.{has, single, union, when}
+use Rattle.counting.proofs.Sums.{sum_mono}
+use Rattle.sets.specs.Sets.{has, single, when}
 use Rattle.sets.proofs.Members.{has_union, has_single, has_when, has_none}
 use Rattle.rows.specs.declared.Row.{Row}
 use Rattle.rounds.specs.Round.{those}

@@ -1,18 +1,17 @@
 -- The rows that a round makes of one row, and where they stand in the rewritten program.
-use Rattle.std.proofs.Common.{◌≡◌, ℕ, zero, suc, ◌+◌, ◌-◌, ◌<◌, ◌≤◌, Bool, true, false, cond, ◌&&◌, ◌||◌, eqb, ◌⊎◌, List, [], ◌∷◌, ◌++◌, map, length, get_or, sym, refl, ap, ◌∙◌, inl, inr, add-zero, add_assoc, add-suc, zero-add, arith}
+use Rattle.std.proofs.Common.{◌≡◌, ℕ, zero, suc, ◌+◌, ◌-◌, ◌<◌, ◌≤◌, Bool, true, false, cond, ◌&&◌, ◌⊎◌, List, [], ◌∷◌, ◌++◌, map, length, get_or, sym, refl, ap, ◌∙◌, inl, inr, add-zero, zero-add, arith}
 use Rattle.std.proofs.lemmas.List.{length-append, length-map, get_or-map, get_or_append_left, get_or-append-add, get_or_past}
-use Rattle.std.proofs.lemmas.Bool.{cases_Bool, cases_lt, cases_eq, cond-true, cond-false, true≢false}
+use Rattle.std.proofs.lemmas.Bool.{cases_Bool, cases_lt, cases_eq, cond-true, cond-false}
 use Rattle.counting.specs.Counting.{sum}
 use Rattle.counting.proofs.Sums.{sum_ext, sum_mono}
 use Rattle.sets.specs.Sets.{has}
-use Rattle.rows.specs.declared.Op.{Op}
 use Rattle.rows.specs.declared.Row.{Row}
-use Rattle.rows.specs.Rows.{shape, copies, only, reads, writes, end_row, row_at}
+use Rattle.rows.specs.Rows.{shape, only, reads, writes, end_row, row_at}
 use Rattle.compiling.specs.Blocks.{flat, starts, moved, assembled}
 use Rattle.compiling.specs.Spill.{Order, slot_in}
 use Rattle.compiling.specs.Rewrite.{class_in, load_row, store_row, inner, spilled_of, replaced, goes, after, core, block, blocks, all_replaced}
 use Rattle.standing.specs.Standing.{bit}
-use Rattle.standing.proofs.Lines.{sum_cons, locate, one_part, flat_length, flat_at, starts_at}
+use Rattle.standing.proofs.Lines.{sum_cons, locate, flat_length, flat_at, starts_at}
 
 -- ---- the rows of one row
 

@@ -1,10 +1,9 @@
 -- A round that spills leaves each source row its block.
-use Rattle.std.proofs.Common.{◌≡◌, ℕ, zero, suc, ◌+◌, ◌-◌, ◌<◌, ◌≤◌, Bool, true, false, cond, ◌&&◌, ◌||◌, eqb, ◌⊎◌, List, [], ◌∷◌, ◌++◌, map, length, get_or, sym, refl, ap, ◌∙◌, subst, inl, inr, add-zero, add-suc, arith}
-use Rattle.std.proofs.lemmas.Bool.{cases_Bool, cases_lt, cases_eq, eqb-true, and_parts, and_from, and_right, and_left, cond-true, cond-false, both_ways, true≢false}
-use Rattle.counting.specs.Counting.{sum}
+use Rattle.std.proofs.Common.{◌≡◌, ℕ, zero, suc, ◌+◌, ◌-◌, ◌<◌, ◌≤◌, Bool, true, false, ◌&&◌, List, length, sym, refl, ap, ◌∙◌, inl, inr, add-zero, add-suc, arith}
+use Rattle.std.proofs.lemmas.Bool.{cases_Bool, cases_lt, eqb-true, and_parts, and_from, and_right, and_left, cond-true, cond-false, both_ways}
 use Rattle.sets.specs.Sets.{has}
 use Rattle.rows.specs.declared.Op.{Op}
-use Rattle.rows.specs.declared.Op.TheVariants.{End, Const, Copy, Add, Sub, And, Xor, Widen, Narrow, Input, Output, Jump, Less, Load, Store}
+use Rattle.rows.specs.declared.Op.TheVariants.{Copy, Load, Store}
 use Rattle.rows.specs.declared.Row.{Row}
 use Rattle.rows.specs.Rows.{shape, copies, Program, row_at}
 use Rattle.compiling.specs.declared.Place.{Place}
@@ -13,7 +12,7 @@ use Rattle.compiling.specs.Spill.{Order, slot_in}
 use Rattle.compiling.specs.Rewrite.{class_in, inner}
 use Rattle.simulation.specs.Static.{row_of, class_of, slot_of, Loads, Operand, Stored, Block, Inner}
 use Rattle.standing.specs.Standing.{bit, fetched, Filled}
-use Rattle.standing.proofs.Parts.{la, lb, sd, before, spread, names, spread_in, names_in, bit_true, bit_false, new_index, pos, tmp, made, landing, load_a, load_b, core_of, store_d, pos_step, tmp_step, tmp_mono, landing_at, load_a_lem, load_b_lem, core_at, store_at}
+use Rattle.standing.proofs.Parts.{la, lb, sd, before, spread, names, spread_in, names_in, bit_true, bit_false, new_index, pos, tmp, made, landing, load_a, load_b, core_of, store_d, pos_step, tmp_step, landing_at, load_a_lem, load_b_lem, core_at, store_at}
 
 pub is_copy : (op : Op) → copies op ≡ true → op ≡ Copy
 is_copy op e = grind arith

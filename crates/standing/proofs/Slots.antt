@@ -1,8 +1,8 @@
 -- A round that spills gives its nodes slots of their own, and their variables places.
-use Rattle.std.proofs.Common.{◌≡◌, ℕ, zero, suc, ◌+◌, ◌-◌, ◌<◌, ◌≤◌, Bool, true, false, cond, ◌&&◌, eqb, ltb, ◌⊎◌, List, [], ◌∷◌, map, length, get_or, sym, refl, ap, ◌∙◌, inl, inr, zero-add, arith}
+use Rattle.std.proofs.Common.{◌≡◌, ℕ, suc, ◌+◌, ◌-◌, ◌<◌, ◌≤◌, Bool, true, false, cond, ◌&&◌, ltb, ◌⊎◌, List, length, sym, refl, ap, ◌∙◌, inl, inr, zero-add, arith}
 use Rattle.std.proofs.lemmas.List.{get_or_past, get_or-map, length-map}
-use Rattle.std.proofs.lemmas.Bool.{cases_Bool, cases_lt, cases_order, lt-ltb, ltb-true, and_parts, and_from, cond-true, cond-false, both_ways}
-use Rattle.counting.specs.Counting.{sum, count, range}
+use Rattle.std.proofs.lemmas.Bool.{cases_Bool, cases_lt, cases_order, lt-ltb, ltb-true, and_parts, and_from, cond-true, cond-false}
+use Rattle.counting.specs.Counting.{count, range}
 use Rattle.counting.proofs.Sums.{sum_below}
 use Rattle.sets.specs.Sets.{has, size}
 use Rattle.rounds.specs.Interference.{node_at}
@@ -14,7 +14,7 @@ use Rattle.compiling.specs.Spill.{Order, slot_in, spill_order, slots_after, plac
 use Rattle.simulation.specs.Static.{slot_of}
 use Rattle.standing.specs.Standing.{bit, Standing, Spills, SlotOfNode}
 use Rattle.standing.proofs.Lines.{has_those, range_length, range_at, count_rises, count_only, count_add}
-use Rattle.standing.proofs.Round.{Fresh, was_out, stays_out, slot_stays, stays_in}
+use Rattle.standing.proofs.Round.{Fresh, slot_stays}
 
 bit_mono : (x y : Bool) → (x ≡ true → y ≡ true) → bit x ≤ bit y
 bit_mono false y h = omega arith

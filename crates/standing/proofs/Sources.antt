@@ -1,18 +1,17 @@
 -- What well-formed rows satisfy, and where the blocks of a working program start.
-use Rattle.std.proofs.Common.{◌≡◌, ℕ, zero, suc, ◌+◌, ◌-◌, ◌*◌, ◌<◌, ◌≤◌, Bool, true, false, cond, ◌&&◌, eqb, ltb, ◌⊎◌, List, [], ◌∷◌, length, get_or, replicate, sym, refl, ap, ◌∙◌, inl, inr, arith}
+use Rattle.std.proofs.Common.{◌≡◌, ℕ, zero, suc, ◌+◌, ◌-◌, ◌*◌, ◌<◌, ◌≤◌, Bool, true, false, List, length, get_or, replicate, sym, refl, ap, ◌∙◌, inl, inr, arith}
 use Rattle.std.proofs.lemmas.List.{get_or_past, get_or-replicate, length-replicate}
-use Rattle.std.proofs.lemmas.Bool.{cases_Bool, cases_lt, cases_eq, eqb-true, cond-true, cond-false, both_ways, true≢false}
-use Rattle.counting.specs.Counting.{sum, count}
-use Rattle.counting.proofs.Sums.{sum_le}
+use Rattle.std.proofs.lemmas.Bool.{cases_Bool, cases_lt, cases_eq, eqb-true, cond-true, both_ways}
+use Rattle.counting.specs.Counting.{sum}
 use Rattle.rows.specs.declared.Op.{Op}
 use Rattle.rows.specs.declared.Op.TheVariants.{End, Const, Copy, Add, Sub, And, Xor, Widen, Narrow, Input, Output, Jump, Less, Load, Store}
 use Rattle.rows.specs.declared.Row.{Row}
 use Rattle.rows.specs.Rows.{shape, copies, opcode, fits, end_row, Program, row_at}
-use Rattle.packing.specs.Inverse.{Held, WellRow, WellFormed}
-use Rattle.compiling.specs.Working.{Working, admitted, no_place, place_of, is_slot, spilled}
+use Rattle.packing.specs.Inverse.{WellRow, WellFormed}
+use Rattle.compiling.specs.Working.{Working, admitted, no_place, is_slot, spilled}
 use Rattle.compiling.specs.declared.Place.{Place}
-use Rattle.simulation.specs.Static.{Sound, row_of, class_of, Block, Inner, Stands}
-use Rattle.standing.specs.Standing.{bit, source_rows, line_of, fetched, Filled, Named, spare, Standing, WellFormedSound, AdmittedStands}
+use Rattle.simulation.specs.Static.{Sound, row_of}
+use Rattle.standing.specs.Standing.{bit, source_rows, line_of, fetched, Filled, spare, Standing, WellFormedSound, AdmittedStands}
 use Rattle.standing.proofs.Round.{is_copy}
 
 -- a test that the row end fails passes only of rows that there are

@@ -9,7 +9,6 @@ use Rattle.rounds.specs.Interference.{node_at}
 use Rattle.rounds.specs.Round.{Outcome}
 use Rattle.compiling.specs.declared.Place.{Place}
 use Rattle.compiling.specs.Working.{Working, admitted, spilled}
-use Rattle.compiling.specs.Blocks.{starts}
 use Rattle.compiling.specs.Spill.{spill_order, places_spilled}
 use Rattle.compiling.specs.Rewrite.{class_in, blocks, rewritten}
 use Rattle.simulation.specs.Static.{Sound, row_of, class_of, slot_of, Block, Inner, Stands}
