@@ -10,8 +10,8 @@ use Rattle.coalescing.proofs.Lists.{placed_moved}
 use Rattle.coalescing.proofs.Coalescing.{merged_from}
 use Rattle.coalescing.proofs.merge.Goals as goal
 
-pub invariant-of-result : goal.invariant-of-result
-invariant-of-result c =
+pub invariant_of-result : goal.invariant_of-result
+invariant_of-result c =
     let ns = c.args.merged.now.node in
     let low = c.min-low.result in
     let high = c.max-high.result in

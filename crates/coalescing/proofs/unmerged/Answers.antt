@@ -15,8 +15,8 @@ loop-v-preserved c =
     let l : v < length c.loop-v.node = omega (arith, c.loop-v.invariant.1) in
     (take_more_set c.loop-v.node v v l ∙ ap (λ (xs : List ℕ). xs ++ v ∷ []) c.loop-v.invariant.0 ∙ sym (range_more v), simp length-set c.loop-v.invariant.1)
 
-pub invariant-of-result : goal.invariant-of-result
-invariant-of-result c =
+pub invariant_of-result : goal.invariant_of-result
+invariant_of-result c =
     let all = filled c.loop-v.node c.loop-v.v (omega arith) c.loop-v.invariant.1 c.loop-v.invariant.0 in
     (c.loop-v.invariant.1, (subst Placed (sym all) (range_placed 448 0 (omega arith)), tt))
 

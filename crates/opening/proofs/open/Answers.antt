@@ -3,16 +3,16 @@ use Rattle.stages.specs.Stages.{compiled_in}
 use Rattle.opening.proofs.Promising.{promise, SourceRows, CodeRows, source_rows_lem, code_rows_lem}
 use Rattle.opening.proofs.open.Goals as goal
 
-pub invariant-of-source : goal.invariant-of-source
-invariant-of-source g c =
+pub invariant_of-source : goal.invariant_of-source
+invariant_of-source g c =
     let t = subst SourceRows (sym c.source_rows.ensures) (source_rows_lem _ c.args.program.now.playable) in
     (t.0, (t.1, (t.2, (t.3, tt))))
 
-pub invariant-of-source-2 : goal.invariant-of-source-2
-invariant-of-source-2 g c = ((subst SourceRows (sym c.source_rows.ensures) (source_rows_lem _ c.args.program.now.playable)).4, tt)
+pub invariant_of-source-2 : goal.invariant_of-source-2
+invariant_of-source-2 g c = ((subst SourceRows (sym c.source_rows.ensures) (source_rows_lem _ c.args.program.now.playable)).4, tt)
 
-pub invariant-of-code : goal.invariant-of-code
-invariant-of-code g c =
+pub invariant_of-code : goal.invariant_of-code
+invariant_of-code g c =
     let t = subst CodeRows (sym c.code.ensures) (code_rows_lem _ c.args.program.now.playable) in
     (t.0, (t.1, (t.2, (t.3, tt))))
 

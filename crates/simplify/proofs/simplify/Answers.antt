@@ -38,8 +38,8 @@ loop-i-preserved g c =
           (c.next_removed-next.ensures gr d (c.loop-i.invariant.2 gr d)) gone (c.loop-i.invariant.3 gr d),
     )
 
-pub invariant-of-result : goal.invariant-of-result
-invariant-of-result g c = (omega (arith, c.len-count.ensures, size_capped 448 (members c.meet.result)), (c.loop-i.invariant.0, tt))
+pub invariant_of-result : goal.invariant_of-result
+invariant_of-result g c = (omega (arith, c.len-count.ensures, size_capped 448 (members c.meet.result)), (c.loop-i.invariant.0, tt))
 
 pub returns : goal.returns
 returns g c = λ gr ec en eo ee.

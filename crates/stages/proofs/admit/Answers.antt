@@ -10,8 +10,8 @@ use Rattle.histories.proofs.Merely.{first_grown}
 use Rattle.stages.proofs.Memory.{admits_in}
 use Rattle.stages.proofs.admit.Goals as goal
 
-pub invariant-of-p : goal.invariant-of-p
-invariant-of-p c =
+pub invariant_of-p : goal.invariant_of-p
+invariant_of-p c =
     let bs = c.args.file.now in
     let m = parts c.args.first.now c.args.second.now c.args.third.now in
     let p = program_of c.in_ok-source.source in

@@ -6,9 +6,9 @@ use Rattle.histories.specs.Histories.{Playable}
 use Rattle.histories.proofs.Playing.{finished_plays}
 use Rattle.stages.proofs.emit.Goals as goal
 
-pub invariant-of-result : goal.invariant-of-result
+pub invariant_of-result : goal.invariant_of-result
 unfolding emitted
-invariant-of-result c =
+invariant_of-result c =
     let P : Compiled → Type 0 = λ x. Playable x in (
       ∥∥₁_map c.args.c.painted (λ t.
           let (m, ms, bs, w, grown, lawful, done, is) = t in

@@ -9,8 +9,8 @@ use Rattle.stages.proofs.round.Goals as goal
 pub take_turn-end-requires : goal.take_turn-end-requires
 take_turn-end-requires g c = ready_of _ _ c.args.p.grown (g.met.F.RegisterFile.lawful c.args.file.now)
 
-pub invariant-of-result : goal.invariant-of-result
-invariant-of-result g c =
+pub invariant_of-result : goal.invariant_of-result
+invariant_of-result g c =
     let held : Draft → Record = λ d. record { draft = d } in
     let t = c.take_turn-end.ensures in (
       ended (g.F.RegisterFile.model c.args.file.now) c.args.p.record.now c.take_turn-end.result.spilled c.take_turn-end.result.token (held c.take_turn-end.result.draft)

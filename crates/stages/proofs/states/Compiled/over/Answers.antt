@@ -8,8 +8,8 @@ use Rattle.stages.proofs.states.Compiled.over.Goals as goal
 first : Working → Compiled
 first w = record { source = w.source; rows = w.rows; rounds = 1; slots = w.slots; places = w.places }
 
-pub invariant-of-result : goal.invariant-of-result
+pub invariant_of-result : goal.invariant_of-result
 unfolding first
-invariant-of-result c =
+invariant_of-result c =
     let P : Compiled → Type 0 = λ x. ∥ Playable x ∥₁ in
     (subst P (sym (ap first c.new.ensures)) ∣ end_plays ∣₁, tt)

@@ -5,8 +5,8 @@ use Rattle.stages.specs.Stages.{working_in}
 use Rattle.stages.proofs.Pending.{spent_grown, spent_room}
 use Rattle.stages.proofs.states.SpillOrder.spent.Goals as goal
 
-pub invariant-of-result : goal.invariant-of-result
-invariant-of-result c =
+pub invariant_of-result : goal.invariant_of-result
+invariant_of-result c =
     let w = working_in c.args.self.record.now in
     let t = c.args.self.token in
     let P : Working → Type 0 = λ x. HasGrown x in
