@@ -1,5 +1,5 @@
 -- Over the rounds: source rows stand in every working program and slots are shared harmlessly, so every round finds its program in order.
-use Rattle.std.proofs.Common.{◌≡◌, ℕ, zero, suc, ◌<◌, ◌≤◌, true, List, [], ◌∷◌, map, length, get_or, Ok, Err, Result, sym, refl, ap, ◌∙◌, subst, inl, inr, arith}
+use Rattle.std.proofs.Common.{◌≡◌, ℕ, zero, suc, ◌≤◌, List, [], ◌∷◌, map, length, get_or, Ok, Err, Result, sym, refl, ◌∙◌, subst, inl, inr, arith}
 use Rattle.std.proofs.lemmas.List.{length-map}
 use Rattle.std.proofs.lemmas.Bool.{cases_Bool}
 use Rattle.faults.specs.declared.ProgramFault.{ProgramFault}
@@ -27,7 +27,6 @@ use Rattle.transfer.proofs.Pairing.{in_order}
 use Rattle.transfer.proofs.Settling.{rounds_settle}
 use Rattle.transfer.proofs.Spilling.{rounds_spill}
 use Rattle.transfer.proofs.Sharing.{sharing_harmless}
-use Rattle.assembling.specs.Assembling.{InOrder}
 use Rattle.assembling.specs.Rounds.{turn, worked, Hoped, Ends, Reached}
 use Rattle.assembling.specs.Whole.{Upright}
 use Rattle.assembling.proofs.Rounds.{few_rounds}

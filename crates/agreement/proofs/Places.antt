@@ -1,9 +1,9 @@
 -- What rounds keep of the source; clashing places.
-use Rattle.std.proofs.Common.{◌≡◌, ℕ, suc, ◌<◌, ◌≤◌, Bool, true, false, ◌&&◌, ◌⊎◌, List, get_or, sym, refl, ap, ◌∙◌, subst, inl, inr, arith}
+use Rattle.std.proofs.Common.{◌≡◌, ℕ, suc, true, false, List, get_or, sym, refl, ap, ◌∙◌, subst, inl, inr}
 use Rattle.std.proofs.lemmas.Bool.{cases_Bool, cases_lt, both_ways, and_from, and_parts, cond-true, cond-false}
 use Rattle.rows.specs.declared.Op.{Op}
 use Rattle.rows.specs.declared.Row.{Row}
-use Rattle.rows.specs.Rows.{shape, copies, row_at, Program}
+use Rattle.rows.specs.Rows.{shape, copies, row_at}
 use Rattle.packing.proofs.Back.{reads_well}
 use Rattle.registers.specs.Model.{Model, Lawful}
 use Rattle.rounds.specs.Round.{Outcome, colours}
@@ -13,11 +13,10 @@ use Rattle.compiling.specs.declared.Place.{Place}
 use Rattle.compiling.specs.Working.{Working, Compiled, place_of, is_slot, spilled, round_of}
 use Rattle.compiling.specs.Emit.{registers_of, places_coloured, emitted}
 use Rattle.interfering.specs.Living.{read_at, lives_before}
-use Rattle.interfering.specs.Edges.{Clashes, Hard, copies_from}
+use Rattle.interfering.specs.Edges.{Clashes, Hard}
 use Rattle.interfering.proofs.Living.{after_only}
 use Rattle.interfering.proofs.Starting.{admitted_read}
 use Rattle.simulation.specs.Static.{Apart, slot_of}
-use Rattle.standing.specs.Standing.{Standing}
 use Rattle.standing.proofs.Keeping.{standing_bounded}
 use Rattle.transfer.specs.Sharing.{Quiet}
 use Rattle.transfer.specs.Transfer.{Unplaced}
@@ -26,7 +25,7 @@ use Rattle.transfer.proofs.Living.{liveness_transfers}
 use Rattle.transfer.proofs.Clashing.{hard_edges_transfer}
 use Rattle.transfer.proofs.Settling.{edges_transfer}
 use Rattle.assembling.specs.Assembling.{InOrder, register_in}
-use Rattle.assembling.specs.Rounds.{turn, Ends, Reached}
+use Rattle.assembling.specs.Rounds.{turn}
 use Rattle.assembling.proofs.Apart.{registers_apart}
 use Rattle.assembling.proofs.Rounds.{coloured_at, coloured_past}
 use Rattle.agreement.specs.Places.{RoundsFaithful, is_register, registered, Clash, ClashesHarmless}
