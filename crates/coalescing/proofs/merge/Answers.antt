@@ -17,7 +17,7 @@ invariant_of-result c =
     let high = c.max-high.result in
     let x : c.node_of-x.result < 448 = c.node_of-x.ensures.placed c.requires.0 in
     let l : low < 448 = omega (arith, c.min-low.ensures) in
-    (ap length c.renamed_nodes.ensures ∙ length-map ns (moved low high) ∙ c.args.merged.now.whole, (subst Placed (sym c.renamed_nodes.ensures) (placed_moved low high ns l c.args.merged.now.placed), tt))
+    record { whole = ap length c.renamed_nodes.ensures ∙ length-map ns (moved low high) ∙ c.args.merged.now.whole; placed = subst Placed (sym c.renamed_nodes.ensures) (placed_moved low high ns l c.args.merged.now.placed) }
 
 pub returns : goal.returns
 returns c =

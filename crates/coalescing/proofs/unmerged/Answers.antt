@@ -18,7 +18,7 @@ loop-v-preserved c =
 pub invariant_of-result : goal.invariant_of-result
 invariant_of-result c =
     let all = filled c.loop-v.node c.loop-v.v (omega arith) c.loop-v.invariant.1 c.loop-v.invariant.0 in
-    (c.loop-v.invariant.1, (subst Placed (sym all) (range_placed 448 0 (omega arith)), tt))
+    record { whole = c.loop-v.invariant.1; placed = subst Placed (sym all) (range_placed 448 0 (omega arith)) }
 
 pub returns : goal.returns
 returns c = (filled c.loop-v.node c.loop-v.v (omega arith) c.loop-v.invariant.1 c.loop-v.invariant.0, refl)

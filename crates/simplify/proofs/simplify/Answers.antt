@@ -39,7 +39,7 @@ loop-i-preserved g c =
     )
 
 pub invariant_of-result : goal.invariant_of-result
-invariant_of-result g c = (omega (arith, c.len-count.ensures, size_capped 448 (members c.meet.result)), (c.loop-i.invariant.0, tt))
+invariant_of-result g c = record { few = omega (arith, c.len-count.ensures, size_capped 448 (members c.meet.result)); whole = c.loop-i.invariant.0 }
 
 pub returns : goal.returns
 returns g c = λ gr ec en eo ee.
