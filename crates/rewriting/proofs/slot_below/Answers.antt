@@ -1,5 +1,5 @@
 use Rattle.std.proofs.Common.{◌≡◌, min, ◌∙◌, arith}
-use Rattle.sets.specs.Sets.{size, meet}
+use Rattle.sets.specs.Sets.{size}
 use Rattle.sets.specs.Words.{members}
 use Rattle.sets.proofs.Orders.{size_capped}
 use Rattle.rewriting.specs.Orders.{slot_below}
