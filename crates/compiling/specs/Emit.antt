@@ -77,4 +77,12 @@ emitted_by c = record {
 -- the compiled program after a round that coloured
 unfoldable pub emitted : Working → Outcome → Compiled
 unfolding registers_of assembled places_coloured
-emitted w o = emitted_by (coloured w o)
+emitted w o =
+    let regs = registers_of o in
+    record {
+      source = w.source;
+      rows = assembled (map (code_block (λ v. slice_index regs v)) w.rows);
+      rounds = suc w.rounds;
+      slots = w.slots;
+      places = places_coloured w o;
+    }

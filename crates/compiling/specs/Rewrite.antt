@@ -114,4 +114,14 @@ rewritten_by t w =
 -- the working program after a round that spilled
 unfoldable pub rewritten : Working → Outcome → Working
 unfolding spill_order slots_after places_spilled blocks assembled all_replaced
-rewritten w o = rewritten_by (ticket w o) w
+rewritten w o =
+    let s = spill_order w o in
+    let class : ℕ → ℕ = class_in w.classes in
+    record {
+      source = w.source;
+      rows = assembled (blocks s class (length w.classes) w.rows);
+      classes = w.classes ++ map class (all_replaced s w.rows);
+      rounds = suc w.rounds;
+      slots = slots_after w o;
+      places = places_spilled w o;
+    }
