@@ -9,8 +9,7 @@ use std::alloc::AllocError;
 pub fn first_word(line: &[u8]) -> &[u8]
     ensures { result.now ≡ first_word line.now }
 {
-    let line = without_spaces(line);
-    &line[0..first_space(line)]
+    up_to_space(without_spaces(line))
 }
 
 // The first word of a line, and what stands behind it.
@@ -31,6 +30,17 @@ fn without_spaces(line: &[u8]) -> &[u8]
         }
     }
     &line[line.len()..]
+}
+
+fn up_to_space(line: &[u8]) -> &[u8]
+    ensures { result.now ≡ up_to_space line.now }
+{
+    for i in 0..line.len() {
+        if line[i] == b' ' {
+            return &line[0..i];
+        }
+    }
+    line
 }
 
 // The place of the first space, the length if there is none.
