@@ -32,7 +32,8 @@ use rows::Row;
 use rows::lines::Lines;
 use sets::NodeSet;
 use source::program::Source;
-use states::{Admitted, Coloured, Compiled, Rounded, SpillOrder};
+pub use states::Admitted;
+use states::{Coloured, Compiled, Rounded, SpillOrder};
 
 // The one record of a program. Only the calls of this crate change it.
 #[derive(Clone, Copy)]
@@ -43,7 +44,8 @@ pub struct Record {
 impl Record {
     // A record that holds the program of the row end alone, admitted.
     pub fn new() -> Record
-        ensures { working_in result ≡ admittedOf end_program }
+        ensures program { program_in result ≡ end_program }
+        ensures fresh { working_in result ≡ admittedOf end_program }
     {
         let source = Source {
             vars: 0,
@@ -60,7 +62,8 @@ impl Record {
 impl<'a> Admitted<'a> {
     // Sets the record to the program of the row end alone, which is admitted.
     pub fn over(into: &'a mut Record) -> Admitted<'a>
-        ensures { (working_in result.record.now ≡ admittedOf end_program) × (result.record.ghost_name ≡ into.entry.ghost_name) }
+        ensures program { (program_in result.record.now ≡ end_program) × (result.record.ghost_name ≡ into.entry.ghost_name) }
+        ensures fresh { working_in result.record.now ≡ admittedOf end_program }
     {
         *into = Record::new();
         Admitted { record: into }

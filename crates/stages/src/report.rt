@@ -15,7 +15,7 @@ impl Record {
         self.draft.source.vars
     }
 
-    fn source_count(&self) -> usize
+    fn count(&self) -> usize
         ensures { result ≡ length (program_in self.now).rows }
     {
         self.draft.source.count
@@ -31,7 +31,7 @@ impl Record {
         }
     }
 
-    fn source_row(&self, i: usize) -> Option<Row>
+    fn row(&self, i: usize) -> Option<Row>
         ensures { result ≡ (if nat_lt i (length (program_in self.now).rows) then Some (row_at (program_in self.now).rows i) else None) }
     {
         if i < self.draft.source.count {
@@ -83,7 +83,7 @@ impl<'a> Admitted<'a> {
     pub fn count(&self) -> usize
         ensures { result ≡ length (program_in self.now.record.now).rows }
     {
-        self.record.source_count()
+        self.record.count()
     }
 
     // The class of variable v of the source; none for a number that is no variable.
@@ -97,7 +97,7 @@ impl<'a> Admitted<'a> {
     pub fn row(&self, i: usize) -> Option<Row>
         ensures { result ≡ (if nat_lt i (length (program_in self.now.record.now).rows) then Some (row_at (program_in self.now.record.now).rows i) else None) }
     {
-        self.record.source_row(i)
+        self.record.row(i)
     }
 }
 

@@ -6,4 +6,4 @@ use Rattle.histories.proofs.Merely.{first_grown}
 use Rattle.stages.proofs.states.Admitted.over.Goals as goal
 
 pub invariant_of-result : goal.invariant_of-result
-invariant_of-result c = let P : Working → Type 0 = λ w. HasGrown w in (subst P (sym c.new.ensures) (first_grown end_file end_program ends_first.admits), tt)
+invariant_of-result c = let P : Working → Type 0 = λ w. HasGrown w in record { grown = subst P (sym c.new.ensures.fresh) (first_grown end_file end_program ends_first.admits) }

@@ -10,7 +10,7 @@ invariant_of-result c =
     let w = working_in c.args.self.record.now in
     let t = c.args.self.token in
     let P : Working → Type 0 = λ x. HasGrown x in
-    (subst P (sym (c.rewrite-draft.ensures (spent_room t w c.args.self.pending))) (spent_grown t w c.args.self.pending), tt)
+    record { grown = subst P (sym (c.rewrite-draft.ensures (spent_room t w c.args.self.pending))) (spent_grown t w c.args.self.pending) }
 
 pub returns : goal.returns
 returns c = c.rewrite-draft.ensures (spent_room c.args.self.token (working_in c.args.self.record.now) c.args.self.pending)
