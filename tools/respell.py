@@ -1,7 +1,8 @@
 #!/usr/bin/env python3
 """Brings the repository's own definitions and lemmas to the spelling of today's Rattle: words in snake case, types in camel case.
 
-usage: python3 tools/respell.py     at the top of the repository, once, right after port.py
+usage: python3 tools/respell.py              at the top of the repository, once, right after port.py
+       python3 tools/respell.py --aliases    only the names under which files take in others
 
 A word that a file of specs/ or proofs/ declares gets plain underscores (setOf is set_of, has-union is has_union); a type loses its dashes
 (Few-clashes is FewClashes). Names that Rattle makes of the code, of src/ and of libraries stay as they are.
@@ -96,7 +97,30 @@ class Turner(snake.Turner):
         return out
 
 
+ALIAS = re.compile(r" as ([a-z]\w*[A-Z]\w*)")
+
+
+def respell_aliases():
+    """Brings the names under which a file takes in others (union as unionOf) to the same spelling."""
+    for where in sorted(glob.glob("crates/*/**/*.rt", recursive=True) + glob.glob("crates/*/**/*.antt", recursive=True)):
+        if "/out/" in where:
+            continue
+        with open(where, encoding="utf-8") as f:
+            text = f.read()
+        new = text
+        for name in sorted(set(ALIAS.findall(text))):
+            if re.search(r"\b%s\b" % respelled(name), text):
+                print(f"alias: {where}: {name} -> {respelled(name)} is taken")
+                continue
+            new = re.sub(r"\b%s\b" % name, respelled(name), new)
+        if new != text:
+            with open(where, "w", encoding="utf-8") as f:
+                f.write(new)
+
+
 def main():
+    if "--aliases" in sys.argv[1:]:
+        return respell_aliases()
     own_crates = crates()
     texts = sorted(glob.glob("crates/*/specs/**/*.antt", recursive=True) + glob.glob("crates/*/proofs/**/*.antt", recursive=True))
     names = set()
@@ -126,6 +150,8 @@ def main():
     sources = sorted(glob.glob("crates/*/src/**/*.rt", recursive=True))
     snake.main([*check, "--table", path, "--prose", "file", "--skip-behind", "goal,c,w,l,g", *made])
     snake.main([*check, "--table", path, "--prose", "file", *others, *sources])
+    if not check:
+        respell_aliases()
     snake.main([*check, "--only", "md", "--table", path, "README.md", *sorted(glob.glob("docs/*.md"))])
 
 

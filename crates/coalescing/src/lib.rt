@@ -6,11 +6,11 @@ ghost use Rattle.std.specs.Prelude.{◌≡◌, ℕ, ◌<◌, ◌≤◌, not, ◌
 ghost use Rattle.counting.specs.Counting.{range};
 ghost use Rattle.sets.specs.Sets.{has, single, union, when};
 ghost use Rattle.sets.specs.Words.{members, sets_of};
-ghost use Rattle.rounds.specs.Interference.{Graph, beside as besideOf, node_at};
-ghost use Rattle.rounds.specs.Pressure.{passes as passesOf};
-ghost use Rattle.rounds.specs.Coalescing.{renamed, contracted, merged as mergedOf, heavy as heavyOf, mergeable as mergeableOf, copies_in, first_mergeable as first_mergeable_of, coalesced};
+ghost use Rattle.rounds.specs.Interference.{Graph, beside as beside_of, node_at};
+ghost use Rattle.rounds.specs.Pressure.{passes as passes_of};
+ghost use Rattle.rounds.specs.Coalescing.{renamed, contracted, merged as merged_of, heavy as heavy_of, mergeable as mergeable_of, copies_in, first_mergeable as first_mergeable_of, coalesced};
 ghost use Rattle.graphs.specs.Graphs.{graph, classes_of};
-ghost use Rattle.rows.specs.Rows.{copies as copiesOf};
+ghost use Rattle.rows.specs.Rows.{copies as all_copies};
 ghost use Rattle.coalescing.specs.Facts.{Joining};
 ghost use Rattle.coalescing.specs.Merges.{moved, near_both, graph_of};
 
@@ -32,7 +32,7 @@ struct Copies {
 
 // Whether a row copies between variables of the source.
 fn is_copy(row: &Row, source: usize) -> bool
-    ensures { result ≡ (copiesOf row.now.op && (nat_lt row.now.d source && nat_lt row.now.a source)) }
+    ensures { result ≡ (all_copies row.now.op && (nat_lt row.now.d source && nat_lt row.now.a source)) }
 {
     row.op.copies() && (row.d as usize) < source && (row.a as usize) < source
 }
@@ -156,7 +156,7 @@ fn fails<F: RegisterFile>(
     k: usize,
 ) -> bool
     requires { (low < 448) × (high < 448) }
-    ensures { (h : Graph) → h.classes ≡ classes_of variables.now → result ≡ not (passesOf (F.RegisterFile.model file.now) h k (has (renamed low high (besideOf (sets_of edges.now) k)))) }
+    ensures { (h : Graph) → h.classes ≡ classes_of variables.now → result ≡ not (passes_of (F.RegisterFile.model file.now) h k (has (renamed low high (beside_of (sets_of edges.now) k)))) }
 {
     !passes(file, variables, k, renamed_in(beside(edges, k), low, high))
 }
@@ -170,7 +170,7 @@ fn heavy_beside<F: RegisterFile>(
     high: usize,
 ) -> NodeSet
     requires { (low < high) × (high < 448) }
-    ensures { (h : Graph) → h.classes ≡ classes_of variables.now → h.edges ≡ contracted low high (sets_of edges.now) → (k : ℕ) → has (members result) k ≡ heavyOf (F.RegisterFile.model file.now) h low k }
+    ensures { (h : Graph) → h.classes ≡ classes_of variables.now → h.edges ≡ contracted low high (sets_of edges.now) → (k : ℕ) → has (members result) k ≡ heavy_of (F.RegisterFile.model file.now) h low k }
 {
     let both = beside_both(edges, low, high);
     let mut heavy = NodeSet::empty();
@@ -192,7 +192,7 @@ fn mergeable<F: RegisterFile>(
     y: usize,
 ) -> bool
     requires { (x < 448) × (y < 448) }
-    ensures { (node : List ℕ) (nodes : ℕ) → result ≡ mergeableOf (F.RegisterFile.model file.now) (graph (classes_of variables.now) node nodes (sets_of edges.now) (sets_of hard.now)) x y }
+    ensures { (node : List ℕ) (nodes : ℕ) → result ≡ mergeable_of (F.RegisterFile.model file.now) (graph (classes_of variables.now) node nodes (sets_of edges.now) (sets_of hard.now)) x y }
 {
     if x == y {
         return false;
@@ -220,7 +220,7 @@ fn allows<F: RegisterFile>(
     copy: Ends,
 ) -> bool
     requires { (copy.d < 448) × (copy.a < 448) }
-    ensures { let g = graph_of variables.now merged.now edges.now hard.now in result ≡ mergeableOf (F.RegisterFile.model file.now) g (node_at g copy.d) (node_at g copy.a) }
+    ensures { let g = graph_of variables.now merged.now edges.now hard.now in result ≡ mergeable_of (F.RegisterFile.model file.now) g (node_at g copy.d) (node_at g copy.a) }
 {
     let x = node_of(variables, merged, copy.d as usize);
     let y = node_of(variables, merged, copy.a as usize);
@@ -255,7 +255,7 @@ fn merge(
     copy: Ends,
 ) -> Merged
     requires { (copy.d < 448) × (copy.a < 448) }
-    ensures { let g = graph_of variables.now merged.now edges.old hard.old in graph_of variables.now result edges.new hard.new ≡ mergedOf (node_at g copy.d) (node_at g copy.a) g }
+    ensures { let g = graph_of variables.now merged.now edges.old hard.old in graph_of variables.now result edges.new hard.new ≡ merged_of (node_at g copy.d) (node_at g copy.a) g }
 {
     let x = node_of(variables, merged, copy.d as usize);
     let y = node_of(variables, merged, copy.a as usize);

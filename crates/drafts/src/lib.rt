@@ -6,7 +6,7 @@ pub mod token;
 ghost use Rattle.std.specs.Prelude.{◌≡◌, length, take, slice_index, slice_index_or};
 ghost use Rattle.sets.specs.Words.{members};
 ghost use Rattle.source.specs.Results.{program_of};
-ghost use Rattle.compiling.specs.Working.{admitted, is_slot as is_slot_of, spilled, unspilled as unspilledOf};
+ghost use Rattle.compiling.specs.Working.{admitted, is_slot as is_slot_of, spilled, unspilled as unspilled_of};
 ghost use Rattle.drafts.specs.Drafts.{working_of};
 
 use compiling::{Home, Place};
@@ -53,7 +53,7 @@ impl Draft {
 
     // The variables that are nodes of the next round: those without a slot.
     pub fn unspilled(&self) -> NodeSet
-        ensures { members result ≡ unspilledOf (working_of self.now) }
+        ensures { members result ≡ unspilled_of (working_of self.now) }
     {
         let mut set = NodeSet::EMPTY;
         for v in 0..self.nodes {

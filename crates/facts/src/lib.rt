@@ -3,7 +3,7 @@
 ghost use Rattle.std.specs.Prelude.{◌≡◌, ℕ, ◌<◌, ◌≤◌, true, false, not, [], ◌∷◌, length, take, drop, set, ◌==◌, slice_index, slice_index_or};
 ghost use Rattle.sets.specs.Sets.{has};
 ghost use Rattle.sets.specs.Words.{members, sets_of};
-ghost use Rattle.facts.specs.Flow.{Flow, Lawful, rows as rows_of, feeders, turns, enters, at, gather, incoming as incomingOf, yields, sweep as swept, solved};
+ghost use Rattle.facts.specs.Flow.{Flow, Lawful, rows as rows_of, feeders, turns, enters, at, gather, incoming as incoming_of, yields, sweep as swept, solved};
 ghost use Rattle.facts.specs.Solving.{Listing, comer_sets, passing, suffices, Tells, Answers};
 
 use sets::{NodeSet, clear};
@@ -100,7 +100,7 @@ fn set_at(sets: &[NodeSet], i: usize) -> NodeSet
 
 // What comes to row i where the rows keep the facts of `facts`; of a row for which there is no room in `comers` only what enters.
 pub fn incoming<K: FactKind>(kind: &K, facts: &[NodeSet], comers: &[NodeSet], i: usize) -> NodeSet
-    ensures { let f = K.FactKind.flow kind.now in Tells f comers.now → members result ≡ incomingOf f (feeders f) (at f (sets_of (take (rows_of f) facts.now))) i }
+    ensures { let f = K.FactKind.flow kind.now in Tells f comers.now → members result ≡ incoming_of f (feeders f) (at f (sets_of (take (rows_of f) facts.now))) i }
 {
     let n = kind.rows();
     let held = &facts[..n.min(facts.len())];

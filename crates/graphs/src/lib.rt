@@ -5,8 +5,8 @@ pub mod variables;
 ghost use Rattle.std.specs.Prelude.{◌≡◌, ℕ, ◌≤◌, min, ◌&&◌, length, take, ◌==◌, nat_lt, slice_index};
 ghost use Rattle.sets.specs.Sets.{has};
 ghost use Rattle.sets.specs.Words.{members, sets_of};
-ghost use Rattle.rounds.specs.Interference.{Graph, beside as besideOf};
-ghost use Rattle.rounds.specs.Pressure.{pressure as pressureOf, passes as passesOf};
+ghost use Rattle.rounds.specs.Interference.{Graph, beside as beside_of};
+ghost use Rattle.rounds.specs.Pressure.{pressure as pressure_of, passes as passes_of};
 ghost use Rattle.graphs.specs.Graphs.{classes_of};
 
 use registers::RegisterFile;
@@ -55,7 +55,7 @@ fn mask(count: usize, classes: &[u8], class: u8) -> NodeSet
 
 // The neighbours of v: every question about edges is asked here.
 pub fn beside(edges: &[NodeSet], v: usize) -> NodeSet
-    ensures { members result ≡ besideOf (sets_of edges.now) v }
+    ensures { members result ≡ beside_of (sets_of edges.now) v }
 {
     if v < edges.len() {
         return edges[v];
@@ -65,7 +65,7 @@ pub fn beside(edges: &[NodeSet], v: usize) -> NodeSet
 
 // The pressure on v by the nodes of a set: by class, as many as the set has of it.
 pub fn pressure<F: RegisterFile>(file: &F, variables: &Variables, v: usize, by: NodeSet) -> u32
-    ensures exact { (g : Graph) → g.classes ≡ classes_of variables.now → result ≡ pressureOf (F.RegisterFile.model file.now) g v (has (members by)) }
+    ensures exact { (g : Graph) → g.classes ≡ classes_of variables.now → result ≡ pressure_of (F.RegisterFile.model file.now) g v (has (members by)) }
     ensures small { result ≤ 28672 }
 {
     let b = variables.class(v);
@@ -79,7 +79,7 @@ pub fn pressure<F: RegisterFile>(file: &F, variables: &Variables, v: usize, by: 
 
 // Whether v passes the test under the pressure of the nodes of a set.
 pub fn passes<F: RegisterFile>(file: &F, variables: &Variables, v: usize, by: NodeSet) -> bool
-    ensures { (g : Graph) → g.classes ≡ classes_of variables.now → result ≡ passesOf (F.RegisterFile.model file.now) g v (has (members by)) }
+    ensures { (g : Graph) → g.classes ≡ classes_of variables.now → result ≡ passes_of (F.RegisterFile.model file.now) g v (has (members by)) }
 {
     pressure(file, variables, v, by) < file.p(variables.class(v)) as u32
 }

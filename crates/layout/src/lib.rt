@@ -3,7 +3,7 @@
 pub mod blocks;
 
 ghost use Rattle.std.specs.Prelude.{◌≡◌, [], ◌∷◌, ◌++◌, map, length, take, slice_index};
-ghost use Rattle.compiling.specs.Blocks.{moved as movedBy};
+ghost use Rattle.compiling.specs.Blocks.{moved as moved_by};
 ghost use Rattle.layout.specs.Layouts.{rows_in, starts_in};
 
 use blocks::Layout;
@@ -46,7 +46,7 @@ impl Layout {
 
     // The rows with their targets moved to the starts of blocks.
     pub fn moved(&self) -> [Row; 512]
-        ensures front { take self.now.count result ≡ map (movedBy (starts_in self.now)) (rows_in self.now) }
+        ensures front { take self.now.count result ≡ map (moved_by (starts_in self.now)) (rows_in self.now) }
         ensures size { length result ≡ 512 }
     {
         let mut rows = [Row::END; 512];
@@ -57,7 +57,7 @@ impl Layout {
     }
 
     fn moved_row(&self, row: Row) -> Row
-        ensures { result ≡ movedBy (starts_in self.now) row }
+        ensures { result ≡ moved_by (starts_in self.now) row }
     {
         let target = if row.op.shape().target {
             self.start(row.target as usize)

@@ -3,7 +3,7 @@ pub mod source_player;
 
 ghost use Rattle.std.specs.Prelude.{◌≡◌, ℕ, suc, ◌%◌, ◌^◌, ◌<◌, ◌≤◌, true, ◌&&◌, [], length, if◌then◌else◌, Some, None, slice_set};
 ghost use Rattle.rows.specs.Rows.{shape as shape_of, bits, row_at};
-ghost use Rattle.machine.specs.Machine.{meaning as meaningOf, taking as takingOf, putting as puttingOf, jumps as jumps_of, effect as effectOn};
+ghost use Rattle.machine.specs.Machine.{meaning as meaning_of, taking as taking_of, putting as putting_of, jumps as jumps_of, effect as effect_on};
 ghost use Rattle.machine.specs.Players.{fresh};
 ghost use Rattle.players.specs.Playing.{numbers_in, input_of, Holds, shared_of, rows_of, player_of, Means, effect_of, Turned};
 
@@ -110,7 +110,7 @@ impl Tape {
     // The table of meanings; x and y are what a and b hold.
     fn meaning(&mut self, row: Row, x: u32, y: u32, slots: &mut [u32]) -> Meant
         requires { (shape_of row.op).slot ≡ true → length slots.old ≡ 64 }
-        ensures { Means (meaningOf row.op x y row.constant row.slot (shared_of self.old (numbers_in slots.old))) result (shared_of self.new (numbers_in slots.new)) }
+        ensures { Means (meaning_of row.op x y row.constant row.slot (shared_of self.old (numbers_in slots.old))) result (shared_of self.new (numbers_in slots.new)) }
     {
         match row.op {
             Op::End => ending(1),
@@ -136,7 +136,7 @@ impl Tape {
 
     // An input row.
     fn take(&mut self) -> Meant
-        ensures { (slots : ℕ → ℕ) → Means (takingOf (shared_of self.old slots).input (shared_of self.old slots)) result (shared_of self.new slots) }
+        ensures { (slots : ℕ → ℕ) → Means (taking_of (shared_of self.old slots).input (shared_of self.old slots)) result (shared_of self.new slots) }
     {
         if self.taken < self.input.count {
             let x = self.input.numbers[self.taken];
@@ -149,7 +149,7 @@ impl Tape {
 
     // An output row of x.
     fn put(&mut self, x: u32) -> Meant
-        ensures { (slots : ℕ → ℕ) → Means (puttingOf x (shared_of self.old slots)) result (shared_of self.new slots) }
+        ensures { (slots : ℕ → ℕ) → Means (putting_of x (shared_of self.old slots)) result (shared_of self.new slots) }
     {
         if self.put < MOST {
             self.output[self.put] = x;
@@ -164,7 +164,7 @@ impl Tape {
     fn effect(&mut self, row: Row, x: u32, y: u32, slots: &mut [u32]) -> Turn
         requires classed { (shape_of row.op).d ≡ true → row.dclass ≤ 2 }
         requires room { (shape_of row.op).slot ≡ true → length slots.old ≡ 64 }
-        ensures { effect_of result (shared_of self.new (numbers_in slots.new)) ≡ effectOn row x y (shared_of self.old (numbers_in slots.old)) }
+        ensures { effect_of result (shared_of self.new (numbers_in slots.new)) ≡ effect_on row x y (shared_of self.old (numbers_in slots.old)) }
     {
         if self.outcome != 0 {
             return REST;
@@ -245,7 +245,7 @@ impl Player {
     // Plays that row, x and y being what its a and b hold, and answers the number for its d, if it writes one.
     fn turn(&mut self, x: u32, y: u32, slots: &mut [u32]) -> Option<u32>
         requires { (shape_of (row_at (rows_of self.old) self.old.row).op).slot ≡ true → length slots.old ≡ 64 }
-        ensures { let row = row_at (rows_of self.old) self.old.row in Turned row (effectOn row x y (shared_of self.old.tape (numbers_in slots.old))) self.old self.new (numbers_in slots.new) result }
+        ensures { let row = row_at (rows_of self.old) self.old.row in Turned row (effect_on row x y (shared_of self.old.tape (numbers_in slots.old))) self.old self.new (numbers_in slots.new) result }
     {
         let row = self.current();
         let turn = self.tape.effect(row, x, y, slots);

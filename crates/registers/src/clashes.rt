@@ -1,5 +1,5 @@
 ghost use Rattle.std.specs.Prelude.{◌≡◌, ◌&&◌};
-ghost use Rattle.registers.specs.Model.{clashes as clashesOf, FewClashes, QAttained};
+ghost use Rattle.registers.specs.Model.{clashes as clashes_of, FewClashes, QAttained};
 
 use crate::RegisterFile;
 
@@ -11,7 +11,7 @@ fn clash<F: RegisterFile>(file: &F, r: usize, s: usize, class: u8) -> bool
 
 /// How many registers of a class register `r` overlaps: at most `q(class, c)` if `r` is of class `c`.
 pub fn count_clashes<F: RegisterFile>(file: &F, r: usize, class: u8) -> u8
-    ensures counted { result ≡ clashesOf (F.RegisterFile.model file.now) class r }
+    ensures counted { result ≡ clashes_of (F.RegisterFile.model file.now) class r }
     ensures few { FewClashes (F.RegisterFile.model file.now) }
     ensures attained { QAttained (F.RegisterFile.model file.now) }
 {

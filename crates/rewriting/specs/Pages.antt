@@ -8,7 +8,7 @@ use Rattle.compiling.specs.declared.Home.TheVariants.{Slot}
 use Rattle.compiling.specs.declared.Place.{Place}
 use Rattle.compiling.specs.Working.{Working, place_of}
 use Rattle.compiling.specs.Spill.{Order, slot_in}
-use Rattle.compiling.specs.Rewrite.{goes, after, core, load_row, store_row, class_in as classBy}
+use Rattle.compiling.specs.Rewrite.{goes, after, core, load_row, store_row, class_in as class_by}
 use Rattle.drafts.specs.declared.draft.Draft.{Draft}
 use Rattle.drafts.specs.declared.token.Token.{Token}
 use Rattle.drafts.specs.Drafts.{working_of, ticket_of}
@@ -27,7 +27,7 @@ order_in d t = (ticket_of t (working_of d)).order
 
 -- the class of a variable of a draft
 unfoldable pub class_in : Draft → ℕ → ℕ
-class_in d = classBy (working_of d).classes
+class_in d = class_by (working_of d).classes
 
 -- whether two variables go out to one slot
 abbrev pub shares : Order → ℕ → ℕ → Bool

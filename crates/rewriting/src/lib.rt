@@ -8,7 +8,7 @@ ghost use Rattle.sets.specs.Sets.{has};
 ghost use Rattle.sets.specs.Words.{members};
 ghost use Rattle.rounds.specs.Round.{Outcome, those};
 ghost use Rattle.compiling.specs.Spill.{slot_in};
-ghost use Rattle.compiling.specs.Rewrite.{inner, goes as goesOut, block, blocks, replaced, all_replaced, ticket, rewritten_by};
+ghost use Rattle.compiling.specs.Rewrite.{inner, goes as goes_out, block, blocks, replaced, all_replaced, ticket, rewritten_by};
 ghost use Rattle.drafts.specs.Drafts.{working_of, Shows, ticket_of};
 ghost use Rattle.drafts.specs.declared.draft.Draft.{Draft as DraftOf};
 ghost use Rattle.layout.specs.Layouts.{rows_in, starts_in, Holds};
@@ -289,7 +289,7 @@ fn go_out(token: &Token, d: u16, a: u16) -> bool
 
 // Whether the field that names v is in use and v is out.
 fn goes(token: &Token, used: bool, v: u16) -> bool
-    ensures { (d : DraftOf) → result ≡ goesOut (order_in d token.now) used v }
+    ensures { (d : DraftOf) → result ≡ goes_out (order_in d token.now) used v }
 {
     used && token.out.contains(v as usize)
 }

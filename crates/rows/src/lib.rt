@@ -5,7 +5,7 @@ pub mod lines;
 ghost use Rattle.std.specs.Prelude.{◌≡◌, ◌≤◌, ltb, length, take, if◌then◌else◌, Some, None, nat_lt};
 ghost use Rattle.sets.specs.Sets.{union, single, when};
 ghost use Rattle.sets.specs.Words.{members};
-ghost use Rattle.rows.specs.Rows.{shape as shape_of, copies as copiesOf, opcode as opcode_of, op_of, fits as fits_of, reads as reads_of, writes as writes_of, next as next_of, set_of};
+ghost use Rattle.rows.specs.Rows.{shape as shape_of, copies as copies_of, opcode as opcode_of, op_of, fits as fits_of, reads as reads_of, writes as writes_of, next as next_of, set_of};
 
 use sets::NodeSet;
 
@@ -219,7 +219,7 @@ impl Op {
     }
 
     pub fn copies(self) -> bool
-        ensures { result ≡ copiesOf self }
+        ensures { result ≡ copies_of self }
     {
         matches!(self, Op::Copy)
     }

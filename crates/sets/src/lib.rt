@@ -2,7 +2,7 @@
 
 ghost use Rattle.std.specs.Prelude.{◌≡◌, ℕ, ◌<◌, ◌≤◌, min, Bool, true, false, cond, ◌&&◌, length, ◌==◌, nat_le, nat_lt};
 ghost use Rattle.counting.specs.Counting.{least};
-ghost use Rattle.sets.specs.Sets.{has, single as singleOf, union as unionOf, meet as meet_of, minus as minusOf, up_to, when, size as size_of};
+ghost use Rattle.sets.specs.Sets.{has, single as single_of, union as union_of, meet as meet_of, minus as minus_of, up_to, when, size as size_of};
 ghost use Rattle.sets.specs.Words.{members, empty_set, cleared};
 
 // A set of numbers below 448: the variables and temporaries of a working program, or rows of a source program.
@@ -46,7 +46,7 @@ impl NodeSet {
 
     // The set with v too; a v of 448 or more is left out.
     pub fn with(self, v: usize) -> NodeSet
-        ensures { members result ≡ unionOf (members self) (when (nat_lt v 448) (singleOf v)) }
+        ensures { members result ≡ union_of (members self) (when (nat_lt v 448) (single_of v)) }
     {
         if v / 64 >= 7 {
             return self;
@@ -58,13 +58,13 @@ impl NodeSet {
     }
 
     pub fn without(self, v: usize) -> NodeSet
-        ensures { members result ≡ minusOf (members self) (when (nat_lt v 448) (singleOf v)) }
+        ensures { members result ≡ minus_of (members self) (when (nat_lt v 448) (single_of v)) }
     {
         self.minus(NodeSet::empty().with(v))
     }
 
     pub fn union(self, other: NodeSet) -> NodeSet
-        ensures { members result ≡ unionOf (members self) (members other) }
+        ensures { members result ≡ union_of (members self) (members other) }
     {
         let mut s = self;
         for i in 0..7 {
@@ -88,7 +88,7 @@ impl NodeSet {
     }
 
     pub fn minus(self, other: NodeSet) -> NodeSet
-        ensures { members result ≡ minusOf (members self) (members other) }
+        ensures { members result ≡ minus_of (members self) (members other) }
     {
         let mut s = self;
         for i in 0..7 {

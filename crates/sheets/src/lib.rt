@@ -3,7 +3,7 @@
 ghost use Rattle.std.specs.Prelude.{◌≡◌, ◌&&◌};
 ghost use Rattle.rows.specs.Rows.{row_at};
 ghost use Rattle.compiling.specs.Working.{is_slot, place_of};
-ghost use Rattle.sheets.specs.Blocks.{together as togetherOf, idle as idleOf, loads as loadsOf, origin as origin_of, carries as carriesOf, kept as keptOf, block_at, block_of};
+ghost use Rattle.sheets.specs.Blocks.{together as together_of, idle as idle_of, loads as loads_of, origin as origin_of, carries as carries_of, kept as kept_of, block_at, block_of};
 
 use compiling::{Home, Place};
 use reports::{Spelled, class_name, op_name};
@@ -51,14 +51,14 @@ fn row_at(rows: &[Row], i: usize) -> Row
 
 // Whether two variables stand in one register or in one slot.
 fn together(p: Place, q: Place) -> bool
-    ensures { result ≡ togetherOf p q }
+    ensures { result ≡ together_of p q }
 {
     p.number == q.number && in_slot(p) == in_slot(q)
 }
 
 // Whether a row is a copy whose ends stand together: nothing of it is in the code.
 fn idle(row: Row, d: Place, a: Place) -> bool
-    ensures { result ≡ idleOf row d a }
+    ensures { result ≡ idle_of row d a }
 {
     row.op.copies() && together(d, a)
 }
@@ -71,7 +71,7 @@ fn spilled(used: bool, place: Place) -> bool
 }
 
 fn loads(row: Row, a: Place, b: Place) -> u8
-    ensures { result ≡ loadsOf row a b }
+    ensures { result ≡ loads_of row a b }
 {
     let shape = row.op.shape();
     let of_a = if spilled(shape.a, a) { 1 } else { 0 };
@@ -92,14 +92,14 @@ fn origin(a: Place, code: &[Row]) -> u16
 
 // Whether a row of code copies from a register to where a variable stands.
 fn carries(row: Row, from: u16, to: Place) -> bool
-    ensures { result ≡ carriesOf row from to }
+    ensures { result ≡ carries_of row from to }
 {
     row.op.copies() && row.a == from && (in_slot(to) || row.d == to.number as u16)
 }
 
 // Whether a row itself is in the code behind its loads: a copy within one register is not.
 fn kept(row: Row, loads: u8, d: Place, a: Place, code: &[Row]) -> bool
-    ensures { result ≡ keptOf row loads d a code.now }
+    ensures { result ≡ kept_of row loads d a code.now }
 {
     !row.op.copies() || carries(row_at(code, loads as usize), origin(a, code), d)
 }

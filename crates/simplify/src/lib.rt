@@ -3,12 +3,12 @@
 pub mod removals;
 
 ghost use Rattle.std.specs.Prelude.{◌≡◌, ℕ, ◌+◌, ◌*◌, ◌^◌, ◌<◌, ◌≤◌, Bool, true, false, ◌&&◌, ◌++◌, length, take, slice_index, slice_index_or};
-ghost use Rattle.sets.specs.Sets.{has, single, minus as minusOf};
+ghost use Rattle.sets.specs.Sets.{has, single, minus as minus_of};
 ghost use Rattle.sets.specs.Words.{members, sets_of};
 ghost use Rattle.rows.specs.Rows.{only, reads, writes};
 ghost use Rattle.rounds.specs.Interference.{Graph, neighbours};
-ghost use Rattle.rounds.specs.Pressure.{pressure as pressureOf, passes as passesOf};
-ghost use Rattle.rounds.specs.Simplify.{members_in, cost as costOf, remaining, removable as removableOf, better as betterOf, cheapest as cheapestOf, next_removed as next_removed_of};
+ghost use Rattle.rounds.specs.Pressure.{pressure as pressure_of, passes as passes_of};
+ghost use Rattle.rounds.specs.Simplify.{members_in, cost as cost_of, remaining, removable as removable_of, better as better_of, cheapest as cheapest_of, next_removed as next_removed_of};
 ghost use Rattle.rounds.specs.Round.{order_of};
 ghost use Rattle.graphs.specs.Graphs.{classes_of};
 ghost use Rattle.simplify.specs.Lightness.{Drawn, Light};
@@ -59,7 +59,7 @@ fn charge_row(row: Row, node: &[u16], costs: &mut [u32])
 
 // The cost of each node that a source variable can be.
 fn costs_of(lines: Lines, node: &[u16]) -> [u32; 64]
-    ensures { (((g : Graph) → g.node ≡ node.now → (k : ℕ) → k < 64 → slice_index result k ≡ costOf g lines.entry.rows.now k)) × (length result ≡ 64) }
+    ensures { (((g : Graph) → g.node ≡ node.now → (k : ℕ) → k < 64 → slice_index result k ≡ cost_of g lines.entry.rows.now k)) × (length result ≡ 64) }
 {
     let mut costs = [0; 64];
     for i in 0..lines.rows.len() {
@@ -76,7 +76,7 @@ fn pressure_left<F: RegisterFile>(
     left: NodeSet,
     v: usize,
 ) -> u32
-    ensures { (g : Graph) → Drawn variables.now edges.now g → result ≡ pressureOf (F.RegisterFile.model file.now) g v (remaining g (members left) v) }
+    ensures { (g : Graph) → Drawn variables.now edges.now g → result ≡ pressure_of (F.RegisterFile.model file.now) g v (remaining g (members left) v) }
 {
     pressure(file, variables, v, beside(edges, v).meet(left))
 }
@@ -89,7 +89,7 @@ fn removable<F: RegisterFile>(
     left: NodeSet,
     v: usize,
 ) -> bool
-    ensures { (g : Graph) → Drawn variables.now edges.now g → result ≡ removableOf (F.RegisterFile.model file.now) g (members left) v }
+    ensures { (g : Graph) → Drawn variables.now edges.now g → result ≡ removable_of (F.RegisterFile.model file.now) g (members left) v }
 {
     left.contains(v) && passes(file, variables, v, beside(edges, v).meet(left))
 }
@@ -121,7 +121,7 @@ fn eased<F: RegisterFile>(
     gone: usize,
     v: usize,
 ) -> bool
-    ensures { (g : Graph) → Drawn variables.now edges.now g → result ≡ (has (neighbours g v) gone && passesOf (F.RegisterFile.model file.now) g v (remaining g (members left) v)) }
+    ensures { (g : Graph) → Drawn variables.now edges.now g → result ≡ (has (neighbours g v) gone && passes_of (F.RegisterFile.model file.now) g v (remaining g (members left) v)) }
 {
     let near = beside(edges, v);
     near.contains(gone) && passes(file, variables, v, near.meet(left))
@@ -136,7 +136,7 @@ fn light_without<F: RegisterFile>(
     light: NodeSet,
     gone: usize,
 ) -> NodeSet
-    ensures { (g : Graph) (before : ℕ) → Drawn variables.now edges.now g → members left ≡ minusOf before (single gone) → Light (F.RegisterFile.model file.now) g before (members light) → Light (F.RegisterFile.model file.now) g (members left) (members result) }
+    ensures { (g : Graph) (before : ℕ) → Drawn variables.now edges.now g → members left ≡ minus_of before (single gone) → Light (F.RegisterFile.model file.now) g before (members light) → Light (F.RegisterFile.model file.now) g (members left) (members result) }
 {
     let heavy = left.minus(light).meet(NodeSet::up_to(variables.count));
     let mut lighter = light.without(gone);
@@ -161,7 +161,7 @@ fn better<F: RegisterFile>(
     best: Offer,
 ) -> Offer
     requires { (v < length costs.now) × (length costs.now ≤ 64) }
-    ensures { (g : Graph) → Drawn variables.now edges.now g → result ≡ betterOf (F.RegisterFile.model file.now) g costs.now (members left) v best }
+    ensures { (g : Graph) → Drawn variables.now edges.now g → result ≡ better_of (F.RegisterFile.model file.now) g costs.now (members left) v best }
 {
     if !left.contains(v) {
         return best;
@@ -188,7 +188,7 @@ fn cheapest<F: RegisterFile>(
     left: NodeSet,
 ) -> Offer
     requires { length costs.now ≤ 64 }
-    ensures { (g : Graph) → Drawn variables.now edges.now g → result ≡ cheapestOf (F.RegisterFile.model file.now) g costs.now (members left) (length costs.now) }
+    ensures { (g : Graph) → Drawn variables.now edges.now g → result ≡ cheapest_of (F.RegisterFile.model file.now) g costs.now (members left) (length costs.now) }
 {
     let mut best = Offer {
         node: 448,

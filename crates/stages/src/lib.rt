@@ -9,9 +9,9 @@ ghost use Rattle.rows.specs.Rows.{Program};
 ghost use Rattle.admission.specs.Memory.{parts, short_part as short_part_of, answer, answered};
 ghost use Rattle.paths.specs.Paths.{Admits};
 ghost use Rattle.rounds.specs.Round.{colours};
-ghost use Rattle.compiling.specs.Working.{admitted as admittedOf, round_of};
+ghost use Rattle.compiling.specs.Working.{admitted as admitted_of, round_of};
 ghost use Rattle.compiling.specs.Rewrite.{ticket, rewritten_by};
-ghost use Rattle.compiling.specs.Emit.{coloured as colouredBy, emitted_by};
+ghost use Rattle.compiling.specs.Emit.{coloured as coloured_by, emitted_by};
 ghost use Rattle.compiling.specs.Compile.{compiled_by};
 ghost use Rattle.drafts.specs.Drafts.{working_of, coloured_of, ticket_of};
 ghost use Rattle.histories.specs.Histories.{Grown, Finished, end_program, end_code};
@@ -45,7 +45,7 @@ impl Record {
     // A record that holds the program of the row end alone, admitted.
     pub fn new() -> Record
         ensures program { program_in result ≡ end_program }
-        ensures fresh { working_in result ≡ admittedOf end_program }
+        ensures fresh { working_in result ≡ admitted_of end_program }
     {
         let source = Source {
             vars: 0,
@@ -63,7 +63,7 @@ impl<'a> Admitted<'a> {
     // Sets the record to the program of the row end alone, which is admitted.
     pub fn over(into: &'a mut Record) -> Admitted<'a>
         ensures program { (program_in result.record.now ≡ end_program) × (result.record.ghost_name ≡ into.entry.ghost_name) }
-        ensures fresh { working_in result.record.now ≡ admittedOf end_program }
+        ensures fresh { working_in result.record.now ≡ admitted_of end_program }
     {
         *into = Record::new();
         Admitted { record: into }
@@ -81,7 +81,7 @@ pub fn admit(
     third: &mut [NodeSet],
 ) -> Result<(), ProgramFault>
     ensures answer { answer (holding result (program_in p.new.record.now)) (parts first.new second.new third.new) ≡ answered file.now (parts first.old second.old third.old) }
-    ensures fresh { result ≡ Ok tt → working_in p.new.record.now ≡ admittedOf (program_in p.new.record.now) }
+    ensures fresh { result ≡ Ok tt → working_in p.new.record.now ≡ admitted_of (program_in p.new.record.now) }
     ensures refused { (e : AnyFault) → result ≡ Err e → p.new.record.now ≡ p.old.record.now }
     ensures same { p.new.record.ghost_name ≡ p.old.record.ghost_name }
     ensures paths { (q : Program) → Admits file.now q }
@@ -126,7 +126,7 @@ fn take_turn<F: RegisterFile>(
     requires { Ready (F.RegisterFile.model file.now) (working_of draft.now) }
     ensures flag { result.spilled ≡ not (colours (round_of (F.RegisterFile.model file.now) (working_of draft.now))) }
     ensures out { result.spilled ≡ true → (result.draft ≡ draft.now) × (ticket_of result.token (working_of draft.now) ≡ ticket (working_of draft.now) (round_of (F.RegisterFile.model file.now) (working_of draft.now))) }
-    ensures painted { result.spilled ≡ false → coloured_of result.draft ≡ colouredBy (working_of draft.now) (round_of (F.RegisterFile.model file.now) (working_of draft.now)) }
+    ensures painted { result.spilled ≡ false → coloured_of result.draft ≡ coloured_by (working_of draft.now) (round_of (F.RegisterFile.model file.now) (working_of draft.now)) }
     ensures memory { parts first.new second.new third.new ≡ afterwards (parts first.old second.old third.old) }
 {
     let variables = Variables::of(draft.source.vars, draft.nodes, draft.classes);
@@ -170,7 +170,7 @@ pub fn round<'a, F: RegisterFile>(
 ) -> Rounded<'a>
     ensures flag { result.spilled ≡ not (colours (round_of (F.RegisterFile.model file.now) (working_in p.entry.record.now))) }
     ensures out { result.spilled ≡ true → (result.record.now ≡ p.entry.record.now) × (ticket_of result.token (working_in p.entry.record.now) ≡ ticket (working_in p.entry.record.now) (round_of (F.RegisterFile.model file.now) (working_in p.entry.record.now))) }
-    ensures painted { result.spilled ≡ false → coloured_in result.record.now ≡ colouredBy (working_in p.entry.record.now) (round_of (F.RegisterFile.model file.now) (working_in p.entry.record.now)) }
+    ensures painted { result.spilled ≡ false → coloured_in result.record.now ≡ coloured_by (working_in p.entry.record.now) (round_of (F.RegisterFile.model file.now) (working_in p.entry.record.now)) }
     ensures memory { parts first.new second.new third.new ≡ afterwards (parts first.old second.old third.old) }
 {
     let Admitted { record } = p;
