@@ -3,7 +3,6 @@ use Rattle.std.specs.Prelude.{ℕ, cond, List, [], ◌∷◌, ◌++◌, length, 
 use Rattle.sets.specs.Words.{empty_set}
 use Rattle.faults.specs.declared.Layer.{Layer}
 use Rattle.faults.specs.declared.Layer.TheVariants.{Bits, Rows, Program as Whole, Player}
-use Rattle.faults.specs.declared.Refusal.{Refusal}
 use Rattle.faults.specs.declared.ProgramFault.{ProgramFault}
 use Rattle.faults.specs.Refusals.{program_refusal}
 use Rattle.rows.specs.Rows.{Program}
@@ -43,6 +42,15 @@ verdict_of (Err e) = Refused (program_refusal e)
 -- the line that answers the word of a file
 abbrev pub answer_line : List ℕ → Verdict → List ℕ
 answer_line word v = word ++ (codes " " ++ (verdict_text v ++ 10 ∷ []))
+
+-- the line that answers the file of a word
+abbrev pub answer_by : List ℕ → Option (List ℕ) → List ℕ
+answer_by word None = codes "bad case" ++ 10 ∷ []
+answer_by word (Some file) = answer_line word (verdict_of (admitting file))
+
+-- the line that answers a line
+abbrev pub answer_to : List ℕ → List ℕ
+answer_to line = answer_by (first_word line) (file_of (first_word line))
 
 -- ---- compile lines
 
@@ -87,14 +95,14 @@ abbrev pub file_line : List ℕ → Option Chip → List ℕ → List ℕ
 file_line word None file = answer_line word (verdict_of (admitting file))
 file_line word (Some chip) file = compile_line word chip (compile (chip_file chip) file)
 
--- the line that answers a word that may spell a file
-abbrev pub answer_by : List ℕ → Option Chip → Option (List ℕ) → List ℕ
-answer_by word chip None = codes "bad case" ++ 10 ∷ []
-answer_by word chip (Some file) = file_line word chip file
+-- the line that replies to a word that may spell a file
+abbrev pub reply_by : List ℕ → Option Chip → Option (List ℕ) → List ℕ
+reply_by word chip None = codes "bad case" ++ 10 ∷ []
+reply_by word chip (Some file) = file_line word chip file
 
--- the line that answers a line: by the file that its first word spells and the chip that its second word names
-abbrev pub answer_to : List ℕ → List ℕ
-answer_to line = answer_by (first_word line) (chip_of (first_word (after_word line))) (file_of (first_word line))
+-- the line that replies to a line: by the file that its first word spells and the chip that its second word names
+abbrev pub reply_to : List ℕ → List ℕ
+reply_to line = reply_by (first_word line) (chip_of (first_word (after_word line))) (file_of (first_word line))
 
 -- ---- memory
 

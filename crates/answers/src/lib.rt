@@ -5,7 +5,7 @@ ghost use Rattle.faults.specs.declared.ProgramFault.{ProgramFault as AnyFault};
 ghost use Rattle.admission.specs.Admission.{admitting};
 ghost use Rattle.compiling.specs.Compile.{compile};
 ghost use Rattle.stages.specs.Stages.{holding, program_in, compiled_in};
-ghost use Rattle.answers.specs.Answers.{layer_name as layer_name_of, verdict_text, verdict_of, answer_line, chip_file, chip_name as chip_name_of, chip_word, chip_of, code_text, compile_line, answer_to, empty_memory};
+ghost use Rattle.answers.specs.Answers.{layer_name as layer_name_of, verdict_text, verdict_of, answer_line, chip_file, chip_name as chip_name_of, chip_word, chip_of, code_text, compile_line, answer_to, reply_to, empty_memory};
 
 use chips::nested::Nested;
 use chips::paired::Paired;
@@ -193,7 +193,7 @@ fn write_code(program: &Compiled, out: &mut Vec<u8>) -> Result<(), AllocError>
 }
 
 // Adds the line that answers the word of a file.
-fn write_answer(
+pub fn write_answer(
     heap: Global,
     word: &[u8],
     verdict: Verdict,
@@ -225,8 +225,34 @@ fn answer_compile(
     }
 }
 
+// Adds the line that answers a line whose first word spells no file.
+fn write_bad_case(out: &mut Vec<u8>) -> Result<(), AllocError>
+    ensures { OnOk result (out.new.items ≡ out.old.items ++ (codes "bad case" ++ 10 ∷ [])) }
+{
+    out.extend_from_slice(b"bad case\n")
+}
+
 // Adds the line that answers a line of cases; `file` is room for the file that the line spells.
 pub fn answer(
+    heap: Global,
+    line: &[u8],
+    program: &mut Admitted,
+    memory: &mut Memory,
+    file: &mut Vec<u8>,
+    out: &mut Vec<u8>,
+) -> Result<(), AllocError>
+    ensures { OnOk result (out.new.items ≡ out.old.items ++ answer_to line.now) }
+{
+    let word = first_word(line);
+    if !read_file(word, file)? {
+        return write_bad_case(out);
+    }
+    let verdict = judge(program, memory, file.as_slice());
+    write_answer(heap, word, verdict, out)
+}
+
+// Adds the line that replies to a line of cases, which may ask to compile; `file` is room for the file that the line spells.
+pub fn reply(
     heap: Global,
     line: &[u8],
     admitted: &mut Admitted,
@@ -235,11 +261,11 @@ pub fn answer(
     file: &mut Vec<u8>,
     out: &mut Vec<u8>,
 ) -> Result<(), AllocError>
-    ensures { OnOk result (out.new.items ≡ out.old.items ++ answer_to line.now) }
+    ensures { OnOk result (out.new.items ≡ out.old.items ++ reply_to line.now) }
 {
     let (word, behind) = split_word(line);
     if !read_file(word, file)? {
-        return out.extend_from_slice(b"bad case\n");
+        return write_bad_case(out);
     }
     match chip_named(first_word(behind)) {
         Some(chip) => answer_compile(heap, word, chip, compiled, memory, file.as_slice(), out),

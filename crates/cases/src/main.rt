@@ -2,17 +2,14 @@
 
 // Answers lines of cases, one line for each.
 use answers::{Memory, answer};
-use stages::Record;
-use stages::states::{Admitted, Compiled};
+use stages::{Admitted, Record};
 use std::io;
 use std::io::{BufRead, BufReader, BufWriter, Write};
 
 fn main(rt: HostRuntime) -> io::Result<()> {
     let heap = rt.alloc();
-    let mut source = Record::new();
-    let mut admitted = Admitted::over(&mut source);
-    let mut code = Record::new();
-    let mut compiled = Compiled::over(&mut code);
+    let mut record = Record::new();
+    let mut program = Admitted::over(&mut record);
     let mut memory = Memory::new();
     let mut input = BufReader::new(heap, rt.stdin())?;
     let mut output = BufWriter::new(heap, rt.stdout())?;
@@ -31,8 +28,7 @@ fn main(rt: HostRuntime) -> io::Result<()> {
         answer(
             heap,
             line.as_slice(),
-            &mut admitted,
-            &mut compiled,
+            &mut program,
             &mut memory,
             &mut file,
             &mut text,

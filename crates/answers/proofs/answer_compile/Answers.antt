@@ -1,4 +1,4 @@
-use Rattle.std.proofs.Common.{◌≡◌, vec_items, sym, ap, ◌∙◌}
+use Rattle.std.proofs.Common.{vec_items, sym, ap, ◌∙◌}
 use Rattle.faults.specs.declared.Refusal.{Refusal}
 use Rattle.compiling.specs.Compile.{compile}
 use Rattle.answers.specs.declared.Verdict.TheVariants.{Refused}

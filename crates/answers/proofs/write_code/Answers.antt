@@ -1,4 +1,4 @@
-use Rattle.std.proofs.Common.{◌≡◌, ℕ, List, [], ◌∷◌, ◌++◌, vec_items, codes, ap, ◌∙◌}
+use Rattle.std.proofs.Common.{[], ◌∷◌, ◌++◌, vec_items, codes, ◌∙◌}
 use Rattle.printing.specs.Texts.{compiled_text}
 use Rattle.answers.proofs.Lines.{three}
 use Rattle.answers.proofs.write_code.Goals as goal

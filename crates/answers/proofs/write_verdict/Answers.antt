@@ -1,4 +1,4 @@
-use Rattle.std.proofs.Common.{◌≡◌, ℕ, cond, List, [], ◌∷◌, ◌++◌, vec_items, string_bytes, codes, ap, ◌∙◌}
+use Rattle.std.proofs.Common.{◌≡◌, [], ◌∷◌, ◌++◌, vec_items, string_bytes, codes, ◌∙◌}
 use Rattle.answers.specs.Answers.{verdict_text}
 use Rattle.answers.proofs.Lines.{added}
 use Rattle.answers.proofs.write_verdict.Goals as goal

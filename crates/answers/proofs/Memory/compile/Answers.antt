@@ -1,6 +1,4 @@
-use Rattle.std.proofs.Common.{◌≡◌, length, Result, ap, ◌∙◌, rules}
-use Rattle.faults.specs.declared.ProgramFault.{ProgramFault}
-use Rattle.rows.specs.Rows.{Program}
+use Rattle.std.proofs.Common.{◌≡◌, length, ap, ◌∙◌, rules}
 use Rattle.compiling.specs.Compile.{compiled_by, compile_with, compile}
 use Rattle.answers.proofs.Judged.{answered_result}
 use Rattle.answers.proofs.Memory.compile.Goals as goal
