@@ -1,5 +1,5 @@
 -- Both ways in which a program is compiled for a register file lead to agreement.
-use Rattle.std.proofs.Common.{◌≡◌, ℕ, ◌≤◌, ◌⊎◌, List, length, sym, subst, inl, inr, arith}
+use Rattle.std.proofs.Common.{◌≡◌, ℕ, ◌≤◌, List, length, sym, subst, inl, inr, arith}
 use mathlib.Core.Logic.{∥∥₁_elim}
 use Rattle.rows.specs.declared.Row.{Row}
 use Rattle.registers.specs.Model.{Model}
