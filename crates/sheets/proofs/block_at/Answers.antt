@@ -1,7 +1,6 @@
-use Rattle.std.proofs.Common.{◌≡◌, Bool, false, cond, ◌&&◌, sym, ◌∙◌}
+use Rattle.std.proofs.Common.{◌&&◌, sym, ◌∙◌}
 use Rattle.std.proofs.lemmas.Bool.{cond-true, cond-false}
 use Rattle.compiling.specs.Working.{is_slot}
-use Rattle.sheets.specs.declared.Block.{Block}
 use Rattle.sheets.specs.Blocks.{kept}
 use Rattle.sheets.proofs.block_at.Goals as goal
 

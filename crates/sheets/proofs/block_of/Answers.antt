@@ -1,4 +1,4 @@
-use Rattle.std.proofs.Common.{◌≡◌, ◌∙◌}
+use Rattle.std.proofs.Common.{◌∙◌}
 use Rattle.sheets.specs.Blocks.{block_at}
 use Rattle.sheets.proofs.block_of.Goals as goal
 
