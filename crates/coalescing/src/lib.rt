@@ -10,7 +10,7 @@ ghost use Rattle.rounds.specs.Interference.{Graph, beside as beside_of, node_at}
 ghost use Rattle.rounds.specs.Pressure.{passes as passes_of};
 ghost use Rattle.rounds.specs.Coalescing.{renamed, contracted, merged as merged_of, heavy as heavy_of, mergeable as mergeable_of, copies_in, first_mergeable as first_mergeable_of, coalesced};
 ghost use Rattle.graphs.specs.Graphs.{graph, classes_of};
-ghost use Rattle.rows.specs.Rows.{copies as all_copies};
+ghost use Rattle.rows.specs.Rows.{copies as op_copies};
 ghost use Rattle.coalescing.specs.Facts.{Joining};
 ghost use Rattle.coalescing.specs.Merges.{moved, near_both, graph_of};
 
@@ -32,7 +32,7 @@ struct Copies {
 
 // Whether a row copies between variables of the source.
 fn is_copy(row: &Row, source: usize) -> bool
-    ensures { result ≡ (all_copies row.now.op && (nat_lt row.now.d source && nat_lt row.now.a source)) }
+    ensures { result ≡ (op_copies row.now.op && (nat_lt row.now.d source && nat_lt row.now.a source)) }
 {
     row.op.copies() && (row.d as usize) < source && (row.a as usize) < source
 }

@@ -56,18 +56,6 @@ impl Drop for Rounded<'_> {
     }
 }
 
-// Nobody can meet this, so that letting an order go is refused.
-impl Drop for SpillOrder<'_> {
-    fn drop(self)
-        requires { ⊥ }
-    {
-        let SpillOrder {
-            record: _,
-            token: _,
-        } = self;
-    }
-}
-
 impl<'a> Rounded<'a> {
     // Whether the round spilled.
     pub fn spilled(&self) -> bool
