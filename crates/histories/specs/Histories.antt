@@ -97,6 +97,7 @@ FinishedPlays = (m : Model) (ms : List Model) (bs : List ℕ) (c : Compiled) →
 abbrev pub end_file : List ℕ
 end_file = 0 ∷ 1 ∷ 0 ∷ 0 ∷ 0 ∷ 0 ∷ []
 
+-- the program of the row end alone
 abbrev pub end_program : Program
 end_program = record { vars = 0; classes = []; rows = end_row ∷ [] }
 
