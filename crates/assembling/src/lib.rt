@@ -6,50 +6,43 @@ ghost use Rattle.assembling.specs.Rounds.{FewRounds};
 ghost use Rattle.assembling.specs.Whole.{AdmittedSound, StaticMet, CompiledAgrees};
 
 // What is called live before each row is closed over the rows.
-pub fn live_lively() -> u8
+pub fn live_lively()
     ensures { LiveLively }
 {
-    0
 }
 
 // So it is of an admitted program, and nothing is live before its first row.
-pub fn admitted_lively() -> u8
+pub fn admitted_lively()
     ensures { AdmittedLively }
 {
-    0
 }
 
 // A round that colours keeps registers apart.
-pub fn registers_apart() -> u8
+pub fn registers_apart()
     ensures { RegistersApart }
 {
-    0
 }
 
 // If every round finds its program in order, one colours in time, and only what was hoped for stands in slots.
-pub fn few_rounds() -> u8
+pub fn few_rounds()
     ensures { FewRounds }
 {
-    0
 }
 
 // An admitted program is sound.
-pub fn admitted_sound() -> u8
+pub fn admitted_sound()
     ensures { AdmittedSound }
 {
-    0
 }
 
 // If its rounds find it in order and keep its source standing, a compiled program meets the static record.
-pub fn static_met() -> u8
+pub fn static_met()
     ensures { StaticMet }
 {
-    0
 }
 
 // So it agrees with its source.
-pub fn compiled_agrees() -> u8
+pub fn compiled_agrees()
     ensures { CompiledAgrees }
 {
-    0
 }

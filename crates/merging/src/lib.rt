@@ -4,36 +4,31 @@
 ghost use Rattle.merging.specs.Merging.{MergingKeeps, RoundMerges, NoHardEdgeInside, MembersShareAClass, AdmittedInOrder};
 
 // Any list of copies merged any number of times keeps nodes, classes and edges in order.
-pub fn merging_keeps() -> u8
+pub fn merging_keeps()
     ensures { MergingKeeps }
 {
-    0
 }
 
 // So does a round.
-pub fn round_merges() -> u8
+pub fn round_merges()
     ensures { RoundMerges }
 {
-    0
 }
 
 // No row makes a hard edge between two members of a node.
-pub fn no_hard_edge_inside_a_node() -> u8
+pub fn no_hard_edge_inside_a_node()
     ensures { NoHardEdgeInside }
 {
-    0
 }
 
 // Members of a node share a class.
-pub fn members_share_a_class() -> u8
+pub fn members_share_a_class()
     ensures { MembersShareAClass }
 {
-    0
 }
 
 // An admitted program names only its own variables and copies within a class.
-pub fn admitted_in_order() -> u8
+pub fn admitted_in_order()
     ensures { AdmittedInOrder }
 {
-    0
 }

@@ -25,8 +25,7 @@ pub struct Ends {
 }
 
 // What is called live is the least solution of the equations of liveness.
-pub fn liveness_is_least() -> u8
+pub fn liveness_is_least()
     ensures { LiveLeast }
 {
-    0
 }

@@ -1,5 +1,5 @@
 -- Rows: what each opcode uses, reads and writes, and where it goes on.
-use Rattle.std.specs.Prelude.{ℕ, suc, ◌*◌, ◌^◌, Bool, true, false, cond, ◌&&◌, List, [], ◌∷◌, ◌++◌, ◌==◌, nat_lt, slice_index_or}
+use Rattle.std.specs.Prelude.{ℕ, suc, ◌*◌, ◌^◌, Bool, true, false, cond, ◌&&◌, Some, None, Option, List, [], ◌∷◌, ◌++◌, ◌==◌, nat_lt, slice_index_or}
 use Rattle.sets.specs.Sets.{union, single, when}
 use Rattle.rows.specs.declared.Op.{Op}
 use Rattle.rows.specs.declared.Op.TheVariants.{End, Const, Copy, Add, Sub, And, Xor, Widen, Narrow, Input, Output, Jump, Less, Load, Store}
@@ -53,6 +53,10 @@ bits class = 8 * 2 ^ class
 -- x alone if the test passes, else nothing
 abbrev pub only : Bool → ℕ → List ℕ
 only b x = cond b (x ∷ []) []
+
+-- x if its field is in use
+abbrev pub used : Bool → ℕ → Option ℕ
+used b x = cond b (Some x) None
 
 -- the variables that a row reads, a before b
 abbrev pub reads : Row → List ℕ

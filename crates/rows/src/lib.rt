@@ -5,7 +5,7 @@ pub mod lines;
 ghost use Rattle.std.specs.Prelude.{◌≡◌, ◌≤◌, ltb, length, take, if◌then◌else◌, Some, None, nat_lt};
 ghost use Rattle.sets.specs.Sets.{union, single, when};
 ghost use Rattle.sets.specs.Words.{members};
-ghost use Rattle.rows.specs.Rows.{shape as shape_of, copies as copies_of, opcode as opcode_of, op_of, fits as fits_of, reads as reads_of, writes as writes_of, next as next_of, set_of};
+ghost use Rattle.rows.specs.Rows.{shape as shape_of, copies as copies_of, opcode as opcode_of, op_of, fits as fits_of, reads as reads_of, writes as writes_of, next as next_of, set_of, used};
 
 use sets::NodeSet;
 
@@ -263,6 +263,48 @@ impl Row {
         constant: 0,
         slot: 0,
     };
+
+    // The variable that the row writes.
+    pub fn written(self) -> Option<u16>
+        ensures { result ≡ used (shape_of self.op).d self.d }
+    {
+        self.op.shape().d.then_some(self.d)
+    }
+
+    // The variable that the row reads first.
+    pub fn first_read(self) -> Option<u16>
+        ensures { result ≡ used (shape_of self.op).a self.a }
+    {
+        self.op.shape().a.then_some(self.a)
+    }
+
+    // The variable that the row reads second.
+    pub fn second_read(self) -> Option<u16>
+        ensures { result ≡ used (shape_of self.op).b self.b }
+    {
+        self.op.shape().b.then_some(self.b)
+    }
+
+    // The row that the row may jump to.
+    pub fn target_row(self) -> Option<u16>
+        ensures { result ≡ used (shape_of self.op).target self.target }
+    {
+        self.op.shape().target.then_some(self.target)
+    }
+
+    // The constant that the row carries.
+    pub fn constant_given(self) -> Option<u16>
+        ensures { result ≡ used (shape_of self.op).constant self.constant }
+    {
+        self.op.shape().constant.then_some(self.constant)
+    }
+
+    // The slot that the row loads or stores.
+    pub fn slot_used(self) -> Option<u8>
+        ensures { result ≡ used (shape_of self.op).slot self.slot }
+    {
+        self.op.shape().slot.then_some(self.slot)
+    }
 
     pub fn reads(self) -> NodeSet
         ensures { members result ≡ set_of (reads_of self) }

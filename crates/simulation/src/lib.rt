@@ -3,8 +3,7 @@
 ghost use Rattle.simulation.specs.Static.{StaticAgrees};
 
 // Code agrees with its source in every rehearsal.
-pub fn code_agrees() -> u8
+pub fn code_agrees()
     ensures { StaticAgrees }
 {
-    0
 }

@@ -4,50 +4,43 @@
 ghost use Rattle.standing.specs.Standing.{WellFormedSound, AdmittedStands, RewrittenStands, SlotOfNode, StandingStands, StandingBounded, JumpsInside};
 
 // The rows of a well-formed program are sound.
-pub fn well_formed_rows_are_sound() -> u8
+pub fn well_formed_rows_are_sound()
     ensures { WellFormedSound }
 {
-    0
 }
 
 // Before the first round each source row is its own block.
-pub fn admitted_rows_stand() -> u8
+pub fn admitted_rows_stand()
     ensures { AdmittedStands }
 {
-    0
 }
 
 // A round that spills leaves each source row its block.
-pub fn rewritten_rows_stand() -> u8
+pub fn rewritten_rows_stand()
     ensures { RewrittenStands }
 {
-    0
 }
 
 // A slot belongs to one node.
-pub fn slots_belong_to_nodes() -> u8
+pub fn slots_belong_to_nodes()
     ensures { SlotOfNode }
 {
-    0
 }
 
 // Where source rows stand, each stands as agreement asks.
-pub fn source_rows_stand() -> u8
+pub fn source_rows_stand()
     ensures { StandingStands }
 {
-    0
 }
 
 // Where source rows stand, rows, variables and slots are few.
-pub fn working_programs_are_bounded() -> u8
+pub fn working_programs_are_bounded()
     ensures { StandingBounded }
 {
-    0
 }
 
 // Where source rows stand, jumps go to rows that there are.
-pub fn jumps_stay_inside() -> u8
+pub fn jumps_stay_inside()
     ensures { JumpsInside }
 {
-    0
 }

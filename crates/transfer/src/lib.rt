@@ -8,85 +8,73 @@ ghost use Rattle.transfer.specs.Settling.{ClassesStay, RoundsSettle, SharedNodes
 ghost use Rattle.transfer.specs.Sharing.{SharingHarmless};
 
 // A temporary is live only inside its block.
-pub fn temporaries_live_inside_blocks() -> u8
+pub fn temporaries_live_inside_blocks()
     ensures { TemporariesInside }
 {
-    0
 }
 
 // The rows of a working program name only its nodes, and copy within a class.
-pub fn working_rows_in_order() -> u8
+pub fn working_rows_in_order()
     ensures { StandingInOrder }
 {
-    0
 }
 
 // Temporaries that are neighbours are what the two loads of a block write.
-pub fn neighbouring_temporaries_share_a_block() -> u8
+pub fn neighbouring_temporaries_share_a_block()
     ensures { NeighboursCouple }
 {
-    0
 }
 
 // Before and after merging, a temporary has at most one temporary beside it.
-pub fn temporaries_are_paired() -> u8
+pub fn temporaries_are_paired()
     ensures { TemporariesPaired }
 {
-    0
 }
 
 // A source variable without a slot is live before a source row just if it is before the row's block.
-pub fn liveness_transfers() -> u8
+pub fn liveness_transfers()
     ensures { LivenessTransfers }
 {
-    0
 }
 
 // Source variables without a slot have a hard edge by a source row just if they have one by a working row.
-pub fn hard_edges_transfer() -> u8
+pub fn hard_edges_transfer()
     ensures { HardEdgesTransfer }
 {
-    0
 }
 
 // The graph of a working program has the edges of the source's first graph, between source variables without a slot.
-pub fn edges_transfer() -> u8
+pub fn edges_transfer()
     ensures { EdgesTransfer }
 {
-    0
 }
 
 // Classes stay byte, half and word from round to round.
-pub fn classes_stay_three() -> u8
+pub fn classes_stay_three()
     ensures { ClassesStay }
 {
-    0
 }
 
 // A round of a working program ends settled.
-pub fn rounds_settle() -> u8
+pub fn rounds_settle()
     ensures { RoundsSettle }
 {
-    0
 }
 
 // Source variables without a slot that share a node have no hard edge in the source.
-pub fn shared_nodes_are_quiet() -> u8
+pub fn shared_nodes_are_quiet()
     ensures { SharedNodesQuiet }
 {
-    0
 }
 
 // A round spills nodes of source variables that had no slot, and nothing else.
-pub fn rounds_spill_source_nodes() -> u8
+pub fn rounds_spill_source_nodes()
     ensures { RoundsSpill }
 {
-    0
 }
 
 // Variables share a slot only where they never disturb each other.
-pub fn slots_are_shared_harmlessly() -> u8
+pub fn slots_are_shared_harmlessly()
     ensures { SharingHarmless }
 {
-    0
 }

@@ -7,30 +7,26 @@ ghost use Rattle.worked.specs.Table.{Cases};
 ghost use Rattle.worked.specs.Generated.{Generated, Rehearsals};
 
 // The worked cases hold of the definitions.
-pub fn worked_cases() -> u8
+pub fn worked_cases()
     ensures { Cases }
 {
-    0
 }
 
 // The definitions compile generated files as the reference does.
-pub fn generated_files() -> u8
+pub fn generated_files()
     ensures { Generated }
 {
-    0
 }
 
 // The definitions rehearse them as the reference does.
-pub fn generated_rehearsals() -> u8
+pub fn generated_rehearsals()
     ensures { Rehearsals }
 {
-    0
 }
 
 // What is computed of rehearsals on either chip is what the rules allow.
-pub fn calls_on_bits() -> u8
+pub fn calls_on_bits()
     ensures nested { Allowed nested_file nested_low }
     ensures paired { Allowed paired_file paired_low }
 {
-    0
 }
