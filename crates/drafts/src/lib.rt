@@ -6,22 +6,15 @@ pub mod token;
 ghost use Rattle.std.specs.Prelude.{◌≡◌, length, take, slice_index, slice_index_or};
 ghost use Rattle.sets.specs.Words.{members};
 ghost use Rattle.source.specs.Results.{program_of};
-ghost use Rattle.compiling.specs.Working.{admitted, is_slot as is_slot_of, spilled, unspilled as unspilled_of};
+ghost use Rattle.compiling.specs.Working.{admitted, spilled, unspilled as unspilled_of};
 ghost use Rattle.drafts.specs.Drafts.{working_of};
 
-use compiling::{Home, Place};
+use compiling::Place;
 use draft::Draft;
 use rows::Row;
 use sets::NodeSet;
 use source::program::Source;
 use token::Colouring;
-
-const OPEN: Place = Place {
-    home: Home::Open,
-    number: 0,
-    round: 0,
-    hoped: false,
-};
 
 impl Draft {
     // The draft of an admitted program, before its first round.
@@ -37,7 +30,7 @@ impl Draft {
             registers: [0; 448],
             rounds: 0,
             slots: 0,
-            places: [OPEN; 64],
+            places: [Place::OPEN; 64],
         }
     }
 
@@ -48,7 +41,7 @@ impl Draft {
         if v >= self.source.vars {
             return false;
         }
-        is_slot(self.places[v].home)
+        self.places[v].is_slot()
     }
 
     // The variables that are nodes of the next round: those without a slot.
@@ -87,12 +80,6 @@ pub fn front_at(bytes: &[u8], n: usize, v: usize) -> u8
     } else {
         0
     }
-}
-
-fn is_slot(home: Home) -> bool
-    ensures { result ≡ is_slot_of home }
-{
-    matches!(home, Home::Slot)
 }
 
 // The rows of a source program at the front of a working program's.

@@ -23,7 +23,7 @@ registers_shown d end o regs s e =
 
 -- a place by its parts
 placed : Bool → Place → ℕ → ℕ → Bool → Place
-placed stays was number round hoped = let new : Place = record { home = Register; number = number; round = round; hoped = hoped } in cond stays was new
+placed stays was number round hoped = let new : Place = record { home = Register number; round = round; hoped = hoped } in cond stays was new
 
 place_shown : (d : Draft) (end : Colouring) (o : Outcome) (registers : List ℕ) (round v : ℕ) → Shows d.nodes end o → take d.nodes registers ≡ registers_of o → round ≡ suc d.rounds → node_at o.graph v < d.nodes →
     place_after d end registers round v ≡ placed (spilled (working_of d).places v) (place_of (working_of d).places v) (get_or (registers_of o) v 0) (suc d.rounds) (hoped_for o.order (node_at o.graph v))

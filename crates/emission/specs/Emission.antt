@@ -22,5 +22,5 @@ unfoldable pub place_after : Draft → Colouring → List ℕ → ℕ → ℕ �
 unfolding has
 place_after d end registers round v =
     let places = (working_of d).places in
-    let new : Place = record { home = Register; number = slice_index (take d.nodes registers) v; round = round; hoped = has (members end.hoped) (slice_index_or (take d.nodes end.node) v v) } in
+    let new : Place = record { home = Register (slice_index (take d.nodes registers) v); round = round; hoped = has (members end.hoped) (slice_index_or (take d.nodes end.node) v v) } in
     cond (spilled places v) (place_of places v) new

@@ -73,8 +73,7 @@ fn place_of(draft: &Draft, end: &Colouring, registers: &[u8; 448], round: u8, v:
         return draft.places[v];
     }
     Place {
-        home: Home::Register,
-        number: front_at(registers, draft.nodes, v),
+        home: Home::Register(front_at(registers, draft.nodes, v)),
         round,
         hoped: end.hoped.contains(end.node_of(draft.nodes, v)),
     }
