@@ -36,27 +36,27 @@ impl Draft {
 
     // The rows of the program.
     pub fn rows(&self) -> &[Row]
-        ensures rows { result.now ≡ (working_of self.now).rows }
+        ensures { result.now ≡ (working_of self.now).rows }
     {
         &self.rows[..self.count]
     }
 
     // The class of variable v, or 0 past the last.
-    pub fn class_of(&self, v: u16) -> u8
+    pub fn class_of(&self, v: usize) -> u8
         ensures { result ≡ slice_index (working_of self.now).classes v }
     {
         self.classes[..self.nodes]
-            .get(v as usize)
+            .get(v)
             .copied()
             .unwrap_or(0)
     }
 
     // The register of variable v of a coloured program, or 0 past the last.
-    pub fn register_of(&self, v: u16) -> u8
+    pub fn register_of(&self, v: usize) -> u8
         ensures { result ≡ slice_index (coloured_of self.now).registers v }
     {
         self.registers[..self.nodes]
-            .get(v as usize)
+            .get(v)
             .copied()
             .unwrap_or(0)
     }
@@ -103,11 +103,11 @@ impl Colouring {
     }
 
     // The register of a node, where the first n have registers; 0 for another.
-    pub fn register_of(&self, n: usize, node: u16) -> u8
+    pub fn register_of(&self, n: usize, node: usize) -> u8
         ensures { result ≡ slice_index (take n self.now.registers) node }
     {
         self.registers[..n.min(448)]
-            .get(node as usize)
+            .get(node)
             .copied()
             .unwrap_or(0)
     }
