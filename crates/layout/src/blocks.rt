@@ -1,3 +1,5 @@
+ghost use Rattle.std.specs.Prelude.{◌≤◌, length};
+
 use crate::few::Few;
 use rows::Row;
 
@@ -6,4 +8,5 @@ use rows::Row;
 pub struct Layout {
     pub rows: Few<Row, 512>,
     pub starts: Few<u16, 512>,
+    ghost few: { (length rows ≤ 512) × (length starts ≤ 512) },
 }

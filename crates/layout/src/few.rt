@@ -30,6 +30,16 @@ impl<T: Copy, const N: usize> Few<T, N> {
         }
     }
 
+    // The first n elements of an array.
+    pub fn front(items: [T; N], n: usize) -> Self
+        ensures { result ≡ take n items }
+    {
+        Few {
+            items,
+            count: n.min(N),
+        }
+    }
+
     pub fn len(&self) -> usize
         ensures count { result ≡ length self.now }
         ensures fits { result ≤ N }
@@ -46,7 +56,8 @@ impl<T: Copy, const N: usize> Few<T, N> {
 
     // Adds an element behind the others, if there is room.
     pub fn push(&mut self, x: T)
-        ensures { self.new ≡ take N (self.old ++ x ∷ []) }
+        ensures items { self.new ≡ take N (self.old ++ x ∷ []) }
+        ensures fits { length self.new ≤ N }
     {
         if self.count < N {
             self.items[self.count] = x;

@@ -3,7 +3,7 @@
 pub mod blocks;
 pub mod few;
 
-ghost use Rattle.std.specs.Prelude.{◌≡◌, ◌≤◌, [], ◌∷◌, ◌++◌, map, length, take, slice_index};
+ghost use Rattle.std.specs.Prelude.{◌≡◌, [], ◌∷◌, ◌++◌, map, length, take, slice_index};
 ghost use Rattle.compiling.specs.Blocks.{moved as moved_by};
 
 use blocks::Layout;
@@ -25,7 +25,6 @@ impl Layout {
     pub fn open(&mut self)
         ensures rows { self.new.rows ≡ self.old.rows }
         ensures starts { self.new.starts ≡ take 512 (self.old.starts ++ length self.old.rows ∷ []) }
-        ensures fits { length self.new.rows ≤ 512 }
     {
         self.starts.push(self.rows.len() as u16);
     }
