@@ -1,16 +1,32 @@
 -- Machine: what one row does, for variables and for registers alike.
-use Rattle.std.specs.Prelude.{ℕ, ◌+◌, ◌-◌, ◌%◌, ◌^◌, Bool, true, false, cond, not, ◌&&◌, ◌||◌, List, [], ◌∷◌, ◌++◌, length, ◌==◌, bit_and, bit_xor, nat_lt}
+use Rattle.std.specs.Prelude.{ℕ, ◌+◌, ◌-◌, ◌%◌, ◌^◌, Bool, true, false, cond, not, ◌&&◌, ◌||◌, List, [], ◌∷◌, ◌++◌, length, Ok, Err, Result, ◌==◌, bit_and, bit_xor, nat_lt}
 use Rattle.rows.specs.declared.Op.{Op}
 use Rattle.rows.specs.declared.Op.TheVariants.{End, Const, Copy, Add, Sub, And, Xor, Widen, Narrow, Input, Output, Jump, Less, Load, Store}
 use Rattle.rows.specs.declared.Row.{Row}
 use Rattle.rows.specs.Rows.{shape, bits}
+use Rattle.machine.specs.declared.Outcome.{Outcome}
+use Rattle.machine.specs.declared.Outcome.TheVariants.{Running, Ended, Starved, Full}
 
--- what a player has beside variables or registers: slots, the input that is left, its output, its outcome (0: it is running)
+-- the number of each outcome
+abbrev pub number_of : Outcome → ℕ
+number_of Running = 0
+number_of Ended = 1
+number_of Starved = 2
+number_of Full = 3
+
+-- whether a player with this outcome has not ended
+abbrev pub is_running : Outcome → Bool
+is_running Running = true
+is_running Ended = false
+is_running Starved = false
+is_running Full = false
+
+-- what a player has beside variables or registers: slots, the input that is left, its output, its outcome
 pub record Shared : Type 0 where
   pub slots : ℕ → ℕ
   pub input : List ℕ
   pub output : List ℕ
-  pub outcome : ℕ
+  pub outcome : Outcome
 
 -- numbers with x at place i
 abbrev pub put : (ℕ → ℕ) → ℕ → ℕ → ℕ → ℕ
@@ -20,23 +36,22 @@ put numbers i x j = cond (j == i) x (numbers j)
 abbrev pub stored : (ℕ → ℕ) → ℕ → ℕ → ℕ → ℕ
 stored slots s x = cond (nat_lt s 64) (put slots s x) slots
 
--- what an opcode makes of its operands: the outcome if it ends the player, else 0; the number for d; what is shared afterwards
+-- what an opcode makes of its operands: the number for d, or the outcome of the player that it ends; what is shared afterwards
 pub record Meaning : Type 0 where
-  pub outcome : ℕ
-  pub value : ℕ
+  pub answer : Result ℕ Outcome
   pub shared : Shared
 
 -- the row ends the player
-abbrev pub ending : ℕ → Shared → Meaning
-ending outcome h = record { outcome = outcome; value = 0; shared = h }
+abbrev pub ending : Outcome → Shared → Meaning
+ending outcome h = record { answer = Err outcome; shared = h }
 
 -- the row gives v for d
 abbrev pub giving : ℕ → Shared → Meaning
-giving v h = record { outcome = 0; value = v; shared = h }
+giving v h = record { answer = Ok v; shared = h }
 
 -- an input row, by the input that is left
 abbrev pub taking : List ℕ → Shared → Meaning
-taking [] h = ending 2 h
+taking [] h = ending Starved h
 taking (n ∷ ns) h = giving n (record { slots = h.slots; input = ns; output = h.output; outcome = h.outcome })
 
 -- an output row of x
@@ -44,11 +59,11 @@ abbrev pub putting : ℕ → Shared → Meaning
 putting x h =
     cond (nat_lt (length h.output) 256)
     (giving 0 (record { slots = h.slots; input = h.input; output = h.output ++ x ∷ []; outcome = h.outcome }))
-    (ending 3 h)
+    (ending Full h)
 
 -- the table of meanings; x and y are what a and b hold, then the constant and the slot of the row
 abbrev pub meaning : Op → (x y constant slot : ℕ) → Shared → Meaning
-meaning End x y constant slot h = ending 1 h
+meaning End x y constant slot h = ending Ended h
 meaning Const x y constant slot h = giving constant h
 meaning Copy x y constant slot h = giving x h
 meaning Add x y constant slot h = giving (x + y) h
@@ -76,13 +91,16 @@ pub record Effect : Type 0 where
   pub jumped : Bool
 
 -- nothing happens, but that the outcome is as given
-abbrev pub halted : ℕ → Shared → Effect
+abbrev pub halted : Outcome → Shared → Effect
 halted outcome h = record { shared = record { slots = h.slots; input = h.input; output = h.output; outcome = outcome }; ran = false; value = 0; jumped = false }
 
--- the effect of a row whose a and b hold x and y: an ended player rests, a row that ends it changes the outcome alone, any other row does what it means, modulo 2 to the bits of the class of d
+-- the effect that an answer comes to: a number is taken modulo 2 to the bits of a class, an outcome ends the player; what is shared before and afterwards
+abbrev pub answered : (class : ℕ) → (jumped : Bool) → (before after : Shared) → Result ℕ Outcome → Effect
+answered class jumped before after (Ok v) = record { shared = after; ran = true; value = v % 2 ^ bits class; jumped = jumped }
+answered class jumped before after (Err outcome) = halted outcome before
+
+-- the effect of a row whose a and b hold x and y: an ended player rests, a row that ends it changes the outcome alone, any other row does what it means
 unfoldable pub effect : Row → (x y : ℕ) → Shared → Effect
 effect r x y h =
     let m = meaning r.op x y r.constant r.slot h in
-    let goes : Effect = record { shared = m.shared; ran = true; value = m.value % 2 ^ bits r.dclass; jumped = jumps r.op x y } in
-    let does : Effect = cond (m.outcome == 0) goes (halted m.outcome h) in
-    cond (h.outcome == 0) does (halted h.outcome h)
+    cond (is_running h.outcome) (answered r.dclass (jumps r.op x y) h m.shared m.answer) (halted h.outcome h)

@@ -5,6 +5,7 @@ use Rattle.rows.specs.declared.Row.{Row}
 use Rattle.rows.specs.Rows.{row_at}
 use Rattle.registers.specs.Model.{Model}
 use Rattle.registers.specs.Runs.{held, patched}
+use Rattle.machine.specs.declared.Outcome.TheVariants.{Running}
 use Rattle.machine.specs.declared.Played.{Played}
 use Rattle.machine.specs.Machine.{effect}
 use Rattle.machine.specs.Players.{Player, running, at, writes_now, next_row, run, rows_played}
@@ -54,7 +55,7 @@ pub record Answered : Type 0 where
 unfoldable pub served_on : Model → (low : ℕ → ℕ) → Call → Stage → Answered
 unfolding run rows_played run_on rows_on
 served_on m low (Restart input) s = record {
-  answer = Ok (record { rows = 0; outcome = 0 });
+  answer = Ok (record { rows = 0; outcome = Running });
   stage = record { contents = s.contents; rehearsal = restarted input s.rehearsal };
 }
 served_on m low (PlaySource n) s =

@@ -1,9 +1,10 @@
 -- Players: the source player over variables, the code player over the registers of any bank.
-use Rattle.std.specs.Prelude.{◌≡◌, ℕ, zero, suc, Bool, true, false, cond, ◌&&◌, ◌⊎◌, List, [], ◌==◌}
+use Rattle.std.specs.Prelude.{◌≡◌, ℕ, zero, suc, Bool, true, false, cond, ◌&&◌, ◌⊎◌, List, []}
 use Rattle.rows.specs.declared.Row.{Row}
 use Rattle.rows.specs.Rows.{shape}
 use Rattle.registers.specs.Model.{Model, Written}
-use Rattle.machine.specs.Machine.{Shared, put, Effect, effect}
+use Rattle.machine.specs.declared.Outcome.TheVariants.{Running}
+use Rattle.machine.specs.Machine.{is_running, Shared, put, Effect, effect}
 
 -- a player: the row it stands at, the number of each variable or register, the rest
 pub record Player : Type 0 where
@@ -13,11 +14,11 @@ pub record Player : Type 0 where
 
 -- a player at row 0, running, with an input and no output
 abbrev pub fresh : (numbers slots : ℕ → ℕ) → List ℕ → Player
-fresh numbers slots input = record { row = 0; numbers = numbers; shared = record { slots = slots; input = input; output = []; outcome = 0 } }
+fresh numbers slots input = record { row = 0; numbers = numbers; shared = record { slots = slots; input = input; output = []; outcome = Running } }
 
 -- whether a player has not ended
 abbrev pub running : Player → Bool
-running p = p.shared.outcome == 0
+running p = is_running p.shared.outcome
 
 -- the effect of the row at which a player stands; w is the row at each place
 abbrev pub at : (ℕ → Row) → Player → Effect

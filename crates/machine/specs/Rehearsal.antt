@@ -6,6 +6,7 @@ use Rattle.rows.specs.declared.Row.{Row}
 use Rattle.rows.specs.Rows.{row_at}
 use Rattle.registers.specs.Model.{Model}
 use Rattle.compiling.specs.Working.{Compiled}
+use Rattle.machine.specs.declared.Outcome.TheVariants.{Running}
 use Rattle.machine.specs.declared.Played.{Played}
 use Rattle.machine.specs.Players.{Player, fresh, run, rows_played, Runs}
 
@@ -57,7 +58,7 @@ fault_of (PlayCode n) = Asked
 
 -- a served call: the rows played and the outcome; a restart plays none and leaves both sides running
 abbrev pub Served : Model → Call → Rehearsal → Played → Rehearsal → Type 0
-Served m (Restart input) r a t = (a ≡ record { rows = 0; outcome = 0 }) × (t ≡ restarted input r)
+Served m (Restart input) r a t = (a ≡ record { rows = 0; outcome = Running }) × (t ≡ restarted input r)
 Served m (PlaySource n) r a t =
     let p = run (row_at r.source_rows) r.source n in
     (a ≡ record { rows = rows_played (row_at r.source_rows) r.source n; outcome = p.shared.outcome }) × (t ≡ with_source p r)

@@ -5,11 +5,14 @@ use Rattle.std.proofs.lemmas.Bool.{cond-true, cond-false, eq-eqb, ne_eqb, and_pa
 use Rattle.rows.specs.declared.Row.{Row}
 use Rattle.rows.specs.Rows.{shape, row_at}
 use Rattle.registers.specs.Model.{Model}
-use Rattle.machine.specs.Machine.{put, Shared, Effect, effect}
+use Rattle.machine.specs.declared.Outcome.{Outcome}
+use Rattle.machine.specs.Machine.{is_running, put, Shared, Effect, effect}
 use Rattle.machine.specs.Players.{Player, running, at, writes_now, next_row, stepped, run, rows_played, Steps, Runs}
 use Rattle.players.specs.declared.Player.{Player as Turning}
+use Rattle.players.specs.declared.SourcePlayer.{SourcePlayer}
+use Rattle.players.specs.declared.CodePlayer.{CodePlayer}
 use Rattle.players.specs.Scripts.{Named}
-use Rattle.players.specs.Playing.{numbers_in, shared_of, rows_of, player_of, leads, Turned}
+use Rattle.players.specs.Playing.{numbers_in, shared_of, rows_of, player_of, source_of, code_of, leads, Turned, Plays, SourceStep, CodeStep}
 use Rattle.players.proofs.Numbers.{put_set}
 
 -- a number is given just where the test passes
@@ -32,60 +35,67 @@ steps_by w p q e is row shared numbers =
     subst (λ (z : Effect). q.numbers ≡ cond ((shape (w p.row).op).d && z.ran) (put p.numbers (w p.row).d z.value) p.numbers) is numbers in
     λ i. record { row = row' i; numbers = numbers' i; shared = shared' i }
 
--- what is left to play of n rows when the player has played i
-pub record Left (w : ℕ → Row) (p first : Player) (n i : ℕ) : Type 0 where
-  pub player : run w p (n - i) ≡ run w first n
-  pub rows : i + rows_played w p (n - i) ≡ rows_played w first n
+-- what a player plays from here on, it plays after i rows
+module _ {P : Type 0} (outcome : P → Outcome) (Step : P → P → Type 0) where
+  abbrev pub Follows : (p first : P) → (n i : ℕ) → Type 0
+  Follows p first n i = (k : ℕ) (q : P) → Plays outcome Step p (n - i) k q → Plays outcome Step first n (i + k) q
 
-module _ (w : ℕ → Row) (p : Player) where
-  run_on_lem : (k : ℕ) → p.shared.outcome ≡ 0 → (run w p (suc k) ≡ run w (stepped w p) k) × (rows_played w p (suc k) ≡ suc (rows_played w (stepped w p) k))
-  unfolding run rows_played
-  run_on_lem k e = let t = eq-eqb p.shared.outcome 0 e in (cond-true (running p) _ _ t, cond-true (running p) _ _ t)
+  rests : (p : P) (k : ℕ) → (is_running (outcome p) ≡ false) ⊎ (k ≡ 0) → Plays outcome Step p k 0 p
+  rests p zero h = (refl, refl)
+  rests p (suc k) (inl off) = inl (off, refl, refl)
+  rests p (suc k) (inr z) = absurd (omega arith)
 
-  run_off : (k : ℕ) → (p.shared.outcome ≡ 0 → ⊥) ⊎ (k ≡ 0) → (run w p k ≡ p) × (rows_played w p k ≡ 0)
-  unfolding run rows_played
-  run_off zero h = (refl, refl)
-  run_off (suc k) (inl n) = let t = ne_eqb p.shared.outcome 0 n in (cond-false (running p) _ _ t, cond-false (running p) _ _ t)
-  run_off (suc k) (inr z) = absurd (omega arith)
-
-  module _ (first : Player) (n i : ℕ) (left : Left w p first n i) where
-    pub left_more : (q : Player) → i < n → p.shared.outcome ≡ 0 → q ≡ stepped w p → Left w q first n (i + 1)
-    left_more q l on e =
-        let s : n - i ≡ suc (n - (i + 1)) = omega arith in
-        let (r, k) = run_on_lem (n - (i + 1)) on in
-        let count : rows_played w p (n - i) ≡ suc (rows_played w q (n - (i + 1))) = ap (rows_played w p) s ∙ k ∙ ap (λ (z : Player). suc (rows_played w z (n - (i + 1)))) (sym e) in
-        record {
-          player = ap (λ (z : Player). run w z (n - (i + 1))) e ∙ sym r ∙ ap (run w p) (sym s) ∙ left.player;
-          rows = let h = left.rows in omega arith;
-        }
-
-    pub left_none : (p.shared.outcome ≡ 0 → ⊥) ⊎ (n - i ≡ 0) → (p ≡ run w first n) × (i ≡ rows_played w first n)
-    left_none h =
-        let (r, k) = run_off (n - i) h in
-        let rows = left.rows in
-        (sym r ∙ left.player, omega arith)
-
--- and so for the code player: what it plays from here on, it plays after i rows
-abbrev pub Follows : Model → (ℕ → Row) → (c first : Player) → (n i : ℕ) → Type 0
-Follows m w c first n i = (k : ℕ) (e : Player) → Runs m w c (n - i) k e → Runs m w first n (i + k) e
-
-module _ (m : Model) (w : ℕ → Row) (c : Player) where
-  runs_off : (k : ℕ) → (c.shared.outcome ≡ 0 → ⊥) ⊎ (k ≡ 0) → Runs m w c k 0 c
-  runs_off zero h = (refl, refl)
-  runs_off (suc k) (inl n) = inl (ne_eqb c.shared.outcome 0 n, refl, refl)
-  runs_off (suc k) (inr z) = absurd (omega arith)
-
-  module _ (first : Player) (n i : ℕ) (follows : Follows m w c first n i) where
-    pub follows_more : (d : Player) → i < n → c.shared.outcome ≡ 0 → Steps m w c d → Follows m w d first n (i + 1)
-    follows_more d l on s k e r =
+  module _ (p first : P) (n i : ℕ) (follows : Follows p first n i) where
+    pub follows_more : (x : P) → i < n → is_running (outcome p) ≡ true → Step p x → Follows x first n (i + 1)
+    follows_more x l on s k q more =
         let j : suc (n - (i + 1)) ≡ n - i = omega arith in
-        let next : Runs m w c (suc (n - (i + 1))) (suc k) e = inr (eq-eqb c.shared.outcome 0 on, (d, k, s, r, refl)) in
-        let all = follows (suc k) e (subst (λ (z : ℕ). Runs m w c z (suc k) e) j next) in
+        let next : Plays outcome Step p (suc (n - (i + 1))) (suc k) q = inr (on, (x, k, s, more, refl)) in
+        let all = follows (suc k) q (subst (λ (z : ℕ). Plays outcome Step p z (suc k) q) j next) in
         let t : i + suc k ≡ (i + 1) + k = omega arith in
-        subst (λ (z : ℕ). Runs m w first n z e) t all
+        subst (λ (z : ℕ). Plays outcome Step first n z q) t all
 
-    pub follows_none : (c.shared.outcome ≡ 0 → ⊥) ⊎ (n - i ≡ 0) → Runs m w first n i c
-    follows_none h = subst (λ (z : ℕ). Runs m w first n z c) (add-zero i) (follows 0 c (runs_off (n - i) h))
+    pub follows_none : (is_running (outcome p) ≡ false) ⊎ (n - i ≡ 0) → Plays outcome Step first n i p
+    follows_none h = subst (λ (z : ℕ). Plays outcome Step first n z p) (add-zero i) (follows 0 p (rests p (n - i) h))
+
+-- what a source player plays by its rows
+module _ (w : ℕ → Row) (p : Player) where
+  run_none : (run w p 0 ≡ p) × (rows_played w p 0 ≡ 0)
+  unfolding run rows_played
+  run_none = (refl, refl)
+
+  run_off : (n : ℕ) → running p ≡ false → (run w p (suc n) ≡ p) × (rows_played w p (suc n) ≡ 0)
+  unfolding run rows_played
+  run_off n e = (cond-false (running p) _ _ e, cond-false (running p) _ _ e)
+
+  run_more : (n : ℕ) → running p ≡ true → (run w p (suc n) ≡ run w (stepped w p) n) × (rows_played w p (suc n) ≡ suc (rows_played w (stepped w p) n))
+  unfolding run rows_played
+  run_more n e = (cond-true (running p) _ _ e, cond-true (running p) _ _ e)
+
+pub source_plays : (n k : ℕ) (p q : SourcePlayer) → Plays (λ s. s.player.tape.outcome) SourceStep p n k q →
+    (rows_of q.player ≡ rows_of p.player) × (source_of q ≡ run (row_at (rows_of p.player)) (source_of p) n) × (k ≡ rows_played (row_at (rows_of p.player)) (source_of p) n)
+source_plays zero k p q (z, e) =
+    let (r, c) = run_none (row_at (rows_of p.player)) (source_of p) in
+    rw (e, z) (refl, sym r, sym c)
+source_plays (suc n) k p q (inl (off, z, e)) =
+    let (r, c) = run_off (row_at (rows_of p.player)) (source_of p) n off in
+    rw (e, z) (refl, sym r, sym c)
+source_plays (suc n) k p q (inr (on, (x, j, s, more, e))) =
+    let w = row_at (rows_of p.player) in
+    let (r, c) = run_more w (source_of p) n on in
+    let (rows, run_x, count) = source_plays n j x q more in
+    let run_w : source_of q ≡ run w (stepped w (source_of p)) n = (rw (s.rows, s.steps) at run_x) in
+    let rows_w : j ≡ rows_played w (stepped w (source_of p)) n = (rw (s.rows, s.steps) at count) in
+    (rows ∙ s.rows, run_w ∙ sym r, e ∙ ap suc rows_w ∙ sym c)
+
+-- what a code player plays by the rows of its bank
+pub code_plays : {B : Type 0} (model : B → Model) (contents : B → ℕ → ℕ) (n k : ℕ) (p q : CodePlayer B) → Plays (λ c. c.player.tape.outcome) (CodeStep model contents) p n k q →
+    (rows_of q.player ≡ rows_of p.player) × (model q.bank ≡ model p.bank) × Runs (model p.bank) (row_at (rows_of p.player)) (code_of contents p) n k (code_of contents q)
+code_plays model contents zero k p q (z, e) = rw e (refl, refl, (z, refl))
+code_plays model contents (suc n) k p q (inl (off, z, e)) = rw e (refl, refl, inl (off, z, refl))
+code_plays model contents (suc n) k p q (inr (on, (x, j, s, more, e))) =
+    let (rows, file, runs) = code_plays model contents n j x q more in
+    let runs_p : Runs (model p.bank) (row_at (rows_of p.player)) (code_of contents x) n j (code_of contents q) = rw (s.rows, s.file) at runs in
+    (rows ∙ s.rows, file ∙ s.file, inr (on, (code_of contents x, j, s.steps, runs_p, e)))
 
 -- a row of the source player by its turn
 module _ (p : Turning) (vars : List ℕ) (row : Row) (x y : ℕ) (here : row ≡ row_at (rows_of p) p.row) (is_x : x ≡ numbers_in vars row.a) (is_y : y ≡ numbers_in vars row.b) where

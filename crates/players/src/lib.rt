@@ -5,6 +5,7 @@ pub mod playing;
 ghost use Rattle.std.specs.Prelude.{◌≡◌, ◌<◌, ◌≤◌, length, take};
 ghost use Rattle.players.specs.Scripts.{Inside, Classed, Named};
 
+use machine::Outcome;
 use rows::Row;
 
 // The rows that a player is to play.
@@ -24,7 +25,7 @@ pub struct SourceScript<'a> {
     ghost named: { Named script.rows.now },
 }
 
-// An input for both players: the first `count` of the numbers.
+// An input for both players: the first `count` of the numbers. Players are plain records, with their numbers in arrays.
 #[derive(Clone, Copy)]
 pub struct Input {
     pub numbers: [u32; 256],
@@ -40,7 +41,7 @@ pub struct Tape {
     pub taken: usize,
     pub output: [u32; 256],
     pub put: usize,
-    pub outcome: u8,
+    pub outcome: Outcome,
     ghost left: { taken ≤ input.count },
     ghost room: { put ≤ 256 },
     ghost whole: { length output ≡ 256 },
@@ -78,17 +79,9 @@ pub struct CodePlayer<B> {
     ghost whole: { length slots ≡ 64 },
 }
 
-// What an opcode makes of its operands: the outcome if it ends the player, else 0, and the number for d.
-#[derive(Clone, Copy)]
-struct Meant {
-    outcome: u8,
-    value: u32,
-}
-
-// What a row did: whether the player goes on, the number for d, whether it goes on at the target.
+// What a row that does not end its player did: the number for d, and whether the player goes on at the target.
 #[derive(Clone, Copy)]
 struct Turn {
-    ran: bool,
     value: u32,
     jumped: bool,
 }

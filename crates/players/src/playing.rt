@@ -3,28 +3,23 @@ pub mod source_player;
 
 ghost use Rattle.std.specs.Prelude.{◌≡◌, ℕ, suc, ◌%◌, ◌^◌, ◌<◌, ◌≤◌, true, ◌&&◌, [], length, if◌then◌else◌, Some, None, slice_set};
 ghost use Rattle.rows.specs.Rows.{shape as shape_of, bits, row_at};
+ghost use Rattle.machine.specs.declared.Outcome.{Outcome as How};
 ghost use Rattle.machine.specs.Machine.{meaning as meaning_of, taking as taking_of, putting as putting_of, jumps as jumps_of, effect as effect_on};
 ghost use Rattle.machine.specs.Players.{fresh};
-ghost use Rattle.players.specs.Playing.{numbers_in, input_of, Holds, shared_of, rows_of, player_of, Means, effect_of, Turned};
+ghost use Rattle.players.specs.Playing.{numbers_in, input_of, output_of, Holds, shared_of, rows_of, player_of, Means, effect_of, Turned, Plays};
 
-use crate::{Input, Meant, Player, Script, Tape, Turn};
+use crate::{Input, Player, Script, Tape, Turn};
 use faults::PlayerFault;
+use machine::{Outcome, Played};
 use rows::{Op, Row};
 
 const MOST: usize = 256;
-
-// An ended player rests, and so does one that the row has ended.
-const REST: Turn = Turn {
-    ran: false,
-    value: 0,
-    jumped: false,
-};
 
 // The number at place i, 0 past the last.
 pub fn number_at(numbers: &[u32], i: usize) -> u32
     ensures { result ≡ numbers_in numbers.now i }
 {
-    if i < numbers.len() { numbers[i] } else { 0 }
+    numbers.get(i).copied().unwrap_or(0)
 }
 
 // Past the last place nothing is put.
@@ -46,24 +41,44 @@ fn reduced(x: u32, class: u8) -> u32
     }
 }
 
-fn giving(value: u32) -> Meant
-    ensures { (result.outcome ≡ 0) × (result.value ≡ value) }
-{
-    Meant { outcome: 0, value }
-}
-
-fn ending(outcome: u8) -> Meant
-    ensures { (result.outcome ≡ outcome) × (result.value ≡ 0) }
-{
-    Meant { outcome, value: 0 }
-}
-
 // Whether the row goes on at its target.
 fn jumps(op: Op, x: u32, y: u32) -> bool
     ensures { result ≡ jumps_of op x y }
 {
     let shape = op.shape();
     shape.target && (!shape.falls || x < y)
+}
+
+// A player that plays row after row.
+trait Steps {
+    ghost outcome: { Self → How };
+
+    ghost Step: { Self → Self → Type 0 };
+
+    fn outcome(&self) -> Outcome
+        ensures { result ≡ outcome self.now };
+
+    // Plays a row; an ended player rests.
+    fn step(&mut self)
+        ensures { Step self.old self.new };
+}
+
+// Plays n rows, unless one ends the player before.
+fn play<P: Steps>(player: &mut P, n: u32) -> Played
+    ensures played { Plays P.outcome P.Step player.old n result.rows player.new }
+    ensures outcome { result.outcome ≡ P.outcome player.new }
+{
+    for rows in 0..n {
+        let outcome = player.outcome();
+        if !outcome.is_running() {
+            return Played { rows, outcome };
+        }
+        player.step();
+    }
+    Played {
+        rows: n,
+        outcome: player.outcome(),
+    }
 }
 
 impl Input {
@@ -83,13 +98,17 @@ impl Input {
             return Err(PlayerFault::Input);
         }
         let mut copy = [0; MOST];
-        for (i, x) in numbers.iter().enumerate() {
-            copy[i] = *x;
-        }
+        copy[..numbers.len()].copy_from_slice(numbers);
         Ok(Input {
             numbers: copy,
             count: numbers.len(),
         })
+    }
+
+    pub fn as_slice(&self) -> &[u32]
+        ensures { result.now ≡ input_of self.now }
+    {
+        &self.numbers[..self.count]
     }
 }
 
@@ -103,81 +122,84 @@ impl Tape {
             taken: 0,
             output: [0; MOST],
             put: 0,
-            outcome: 0,
+            outcome: Outcome::Running,
         }
     }
 
+    pub fn output(&self) -> &[u32]
+        ensures { result.now ≡ output_of self.now }
+    {
+        &self.output[..self.put]
+    }
+
     // The table of meanings; x and y are what a and b hold.
-    fn meaning(&mut self, row: Row, x: u32, y: u32, slots: &mut [u32]) -> Meant
+    fn meaning(&mut self, row: Row, x: u32, y: u32, slots: &mut [u32]) -> Result<u32, Outcome>
         requires { (shape_of row.op).slot ≡ true → length slots.old ≡ 64 }
         ensures { Means (meaning_of row.op x y row.constant row.slot (shared_of self.old (numbers_in slots.old))) result (shared_of self.new (numbers_in slots.new)) }
     {
         match row.op {
-            Op::End => ending(1),
-            Op::Const => giving(row.constant as u32),
-            Op::Copy => giving(x),
-            Op::Add => giving(x.wrapping_add(y)),
-            Op::Sub => giving(x.wrapping_sub(y)),
-            Op::And => giving(x & y),
-            Op::Xor => giving(x ^ y),
-            Op::Widen => giving(x),
-            Op::Narrow => giving(x),
+            Op::End => Err(Outcome::Ended),
+            Op::Const => Ok(row.constant as u32),
+            Op::Copy => Ok(x),
+            Op::Add => Ok(x.wrapping_add(y)),
+            Op::Sub => Ok(x.wrapping_sub(y)),
+            Op::And => Ok(x & y),
+            Op::Xor => Ok(x ^ y),
+            Op::Widen => Ok(x),
+            Op::Narrow => Ok(x),
             Op::Input => self.take(),
             Op::Output => self.put(x),
-            Op::Jump => giving(0),
-            Op::Less => giving(0),
-            Op::Load => giving(number_at(slots, row.slot as usize)),
+            Op::Jump => Ok(0),
+            Op::Less => Ok(0),
+            Op::Load => Ok(number_at(slots, row.slot as usize)),
             Op::Store => {
                 put(slots, row.slot as usize, x);
-                giving(0)
+                Ok(0)
             }
         }
     }
 
     // An input row.
-    fn take(&mut self) -> Meant
+    fn take(&mut self) -> Result<u32, Outcome>
         ensures { (slots : ℕ → ℕ) → Means (taking_of (shared_of self.old slots).input (shared_of self.old slots)) result (shared_of self.new slots) }
     {
-        if self.taken < self.input.count {
-            let x = self.input.numbers[self.taken];
-            self.taken += 1;
-            giving(x)
-        } else {
-            ending(2)
-        }
+        let input = self.input;
+        let x = input.as_slice().get(self.taken).ok_or(Outcome::Starved)?;
+        self.taken += 1;
+        Ok(*x)
     }
 
     // An output row of x.
-    fn put(&mut self, x: u32) -> Meant
+    fn put(&mut self, x: u32) -> Result<u32, Outcome>
         ensures { (slots : ℕ → ℕ) → Means (putting_of x (shared_of self.old slots)) result (shared_of self.new slots) }
     {
         if self.put < MOST {
             self.output[self.put] = x;
             self.put += 1;
-            giving(0)
+            Ok(0)
         } else {
-            ending(3)
+            Err(Outcome::Full)
         }
     }
 
     // An ended player rests, a row that ends it changes the outcome alone, any other does what it means.
-    fn effect(&mut self, row: Row, x: u32, y: u32, slots: &mut [u32]) -> Turn
+    fn effect(&mut self, row: Row, x: u32, y: u32, slots: &mut [u32]) -> Option<Turn>
         requires classed { (shape_of row.op).d ≡ true → row.dclass ≤ 2 }
         requires room { (shape_of row.op).slot ≡ true → length slots.old ≡ 64 }
         ensures { effect_of result (shared_of self.new (numbers_in slots.new)) ≡ effect_on row x y (shared_of self.old (numbers_in slots.old)) }
     {
-        if self.outcome != 0 {
-            return REST;
+        if !self.outcome.is_running() {
+            return None;
         }
-        let meant = self.meaning(row, x, y, slots);
-        if meant.outcome != 0 {
-            self.outcome = meant.outcome;
-            return REST;
-        }
-        Turn {
-            ran: true,
-            value: reduced(meant.value, row.dclass),
-            jumped: jumps(row.op, x, y),
+        match self.meaning(row, x, y, slots) {
+            Ok(value) => Some(Turn {
+                value: reduced(value, row.dclass),
+                jumped: jumps(row.op, x, y),
+            }),
+            Err(outcome) => {
+                self.outcome = outcome;
+                None
+            }
         }
     }
 }
@@ -186,25 +208,12 @@ impl Turn {
     // Where the player stands afterwards, from row i on.
     fn leads(self, row: Row, i: usize) -> usize
         requires { i < 512 }
-        ensures { result ≡ (if self.ran then (if self.jumped then row.target else suc i) else i) }
+        ensures { result ≡ (if self.jumped then row.target else suc i) }
     {
-        if !self.ran {
-            i
-        } else if self.jumped {
+        if self.jumped {
             row.target as usize
         } else {
             i + 1
-        }
-    }
-
-    // The number for d, if the row writes one.
-    fn number(self, op: Op) -> Option<u32>
-        ensures { result ≡ (if (shape_of op).d && self.ran then Some self.value else None) }
-    {
-        if op.shape().d && self.ran {
-            Some(self.value)
-        } else {
-            None
         }
     }
 }
@@ -216,9 +225,7 @@ impl Player {
         ensures starts { (numbers slots : ℕ → ℕ) → player_of result numbers slots ≡ fresh numbers slots [] }
     {
         let mut rows = [Row::END; 512];
-        for (i, row) in script.rows.iter().enumerate() {
-            rows[i] = *row;
-        }
+        rows[..script.rows.len()].copy_from_slice(script.rows);
         Player {
             rows,
             count: script.rows.len(),
@@ -248,8 +255,8 @@ impl Player {
         ensures { let row = row_at (rows_of self.old) self.old.row in Turned row (effect_on row x y (shared_of self.old.tape (numbers_in slots.old))) self.old self.new (numbers_in slots.new) result }
     {
         let row = self.current();
-        let turn = self.tape.effect(row, x, y, slots);
+        let turn = self.tape.effect(row, x, y, slots)?;
         self.row = turn.leads(row, self.row);
-        turn.number(row.op)
+        row.op.shape().d.then_some(turn.value)
     }
 }

@@ -1,18 +1,30 @@
 #![tactic(auto)]
 
-ghost use Rattle.std.specs.Prelude.{◌≡◌, Ok, Err};
+ghost use Rattle.std.specs.Prelude.{◌≡◌, if◌then◌else◌, Ok, Err, nat_le};
+ghost use Rattle.faults.specs.declared.PlayerFault.TheVariants.{Asked};
 ghost use Rattle.compiling.specs.Working.{Compiled};
 ghost use Rattle.machine.specs.Rehearsal.{opened as opened_of, Restart, PlaySource, PlayCode, Does};
 ghost use Rattle.players.specs.Playing.{numbers_in};
 ghost use Rattle.rehearsals.specs.Rehearsing.{rehearsal_of, file_of};
 
 use faults::PlayerFault;
-use machine::Played;
+use machine::{Outcome, Played};
 use players::playing::number_at;
 use players::{CodePlayer, Input, Script, SourcePlayer, SourceScript};
 use registers::{Bank, RegisterFile};
 
 const MOST_ROWS: u32 = 65_535;
+
+// The rows asked for, if a play serves as many.
+fn asked(n: u32) -> Result<u32, PlayerFault>
+    ensures { result ≡ (if nat_le n 65535 then Ok n else Err Asked) }
+{
+    if n <= MOST_ROWS {
+        Ok(n)
+    } else {
+        Err(PlayerFault::Asked)
+    }
+}
 
 /// A source program and its code, played side by side. Only restart and the two plays change it.
 #[derive(Drop)]
@@ -44,7 +56,7 @@ impl<B: Bank> Rehearsal<B> {
         self.code.restart(input);
         Ok(Played {
             rows: 0,
-            outcome: 0,
+            outcome: Outcome::Running,
         })
     }
 
@@ -54,10 +66,7 @@ impl<B: Bank> Rehearsal<B> {
         ensures does { Does (file_of B.RegisterFile.model self.old) (PlaySource n) (rehearsal_of B.Bank.contents self.old) result (rehearsal_of B.Bank.contents self.new) }
         ensures refused { elim result [ Ok a ↦ Unit {0} | Err e ↦ self.new ≡ self.old ] }
     {
-        if n > MOST_ROWS {
-            return Err(PlayerFault::Asked);
-        }
-        Ok(self.source.play(n))
+        Ok(self.source.play(asked(n)?))
     }
 
     /// At most n rows of the code; n is at most 65,535.
@@ -66,10 +75,7 @@ impl<B: Bank> Rehearsal<B> {
         ensures does { Does (file_of B.RegisterFile.model self.old) (PlayCode n) (rehearsal_of B.Bank.contents self.old) result (rehearsal_of B.Bank.contents self.new) }
         ensures refused { elim result [ Ok a ↦ Unit {0} | Err e ↦ self.new ≡ self.old ] }
     {
-        if n > MOST_ROWS {
-            return Err(PlayerFault::Asked);
-        }
-        Ok(self.code.play(n))
+        Ok(self.code.play(asked(n)?))
     }
 
     pub fn source_row(&self) -> usize
@@ -84,13 +90,13 @@ impl<B: Bank> Rehearsal<B> {
         self.code.player.row
     }
 
-    pub fn source_outcome(&self) -> u8
+    pub fn source_outcome(&self) -> Outcome
         ensures { result ≡ (rehearsal_of B.Bank.contents self.now).source.shared.outcome }
     {
         self.source.player.tape.outcome
     }
 
-    pub fn code_outcome(&self) -> u8
+    pub fn code_outcome(&self) -> Outcome
         ensures { result ≡ (rehearsal_of B.Bank.contents self.now).code.shared.outcome }
     {
         self.code.player.tape.outcome
@@ -99,13 +105,13 @@ impl<B: Bank> Rehearsal<B> {
     pub fn source_output(&self) -> &[u32]
         ensures { result.now ≡ (rehearsal_of B.Bank.contents self.now).source.shared.output }
     {
-        &self.source.player.tape.output[..self.source.player.tape.put]
+        self.source.player.tape.output()
     }
 
     pub fn code_output(&self) -> &[u32]
         ensures { result.now ≡ (rehearsal_of B.Bank.contents self.now).code.shared.output }
     {
-        &self.code.player.tape.output[..self.code.player.tape.put]
+        self.code.player.tape.output()
     }
 
     /// The number of variable v, 0 if there is none.

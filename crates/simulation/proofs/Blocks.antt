@@ -6,10 +6,11 @@ use Rattle.rows.specs.declared.Row.{Row}
 use Rattle.rows.specs.Rows.{shape, copies, bits, Program}
 use Rattle.compiling.specs.declared.Place.{Place}
 use Rattle.compiling.specs.Working.{spilled}
-use Rattle.machine.specs.Machine.{put, Effect}
+use Rattle.machine.specs.Machine.{is_running, put, Effect}
 use Rattle.machine.specs.Players.{Player, at, writes_now, next_row, stepped}
+use Rattle.machine.proofs.Effects.{jumped_may, falls_may}
 use Rattle.simulation.specs.Static.{row_of, class_of, Sound, Lively, slot_of, Shares, Loads, Operand, Block, Inner, Stands}
-use Rattle.simulation.proofs.Effects.{effect_same, effect_slots, with_slots, lifted, load_at, store_at, jumped_may, falls_may, write_on, value_small, put_same, put_other, is_copy, copy_effect, arrives, ran_outcome, stop_outcome}
+use Rattle.simulation.proofs.Effects.{effect_same, effect_slots, with_slots, lifted, load_at, store_at, write_on, value_small, put_same, put_other, is_copy, copy_effect, arrives, ran_outcome, stop_outcome}
 
 -- what the home of a variable holds: its slot, or its own cell
 abbrev pub home : List Place → Player → ℕ → ℕ
@@ -20,13 +21,13 @@ pub record Like (s : Program) (live : ℕ → ℕ → Bool) (h : List Place) (st
   pub input_as : m.shared.input ≡ p.shared.input
   pub output_as : m.shared.output ≡ p.shared.output
   pub outcome_as : m.shared.outcome ≡ p.shared.outcome
-  pub row_as : p.shared.outcome ≡ 0 → m.row ≡ start p.row
-  pub holds : p.shared.outcome ≡ 0 → (v : ℕ) → v < s.vars → live p.row v ≡ true → home h m v ≡ p.numbers v
+  pub row_as : is_running p.shared.outcome ≡ true → m.row ≡ start p.row
+  pub holds : is_running p.shared.outcome ≡ true → (v : ℕ) → v < s.vars → live p.row v ≡ true → home h m v ≡ p.numbers v
   pub small : (v : ℕ) → p.numbers v < 2 ^ bits (class_of s v)
 
 -- what a working row must find so that a copy may fall away
 abbrev pub Fit : (ℕ → Row) → Player → Type 0
-Fit w m = copies (w m.row).op ≡ true → (m.shared.outcome ≡ 0) × (m.numbers (w m.row).a < 2 ^ bits (w m.row).dclass)
+Fit w m = copies (w m.row).op ≡ true → (is_running m.shared.outcome ≡ true) × (m.numbers (w m.row).a < 2 ^ bits (w m.row).dclass)
 
 abbrev pub Goes : (ℕ → Row) → Player → ℕ → Player → Type 0
 Goes w m zero e = m ≡ e
@@ -37,7 +38,7 @@ steps_more : (w : ℕ → Row) (m : Player) (l : ℕ) (e : Player) → Goes w m 
 steps_more w m zero e st ft = (rw st ft, ap (stepped w) st)
 steps_more w m (suc l) e st ft = (st.0, steps_more w (stepped w m) l e st.1 ft)
 
-module _ (s : Program) (w : ℕ → Row) (p : ℕ) (m : Player) (at_p : m.row ≡ p) (running : m.shared.outcome ≡ 0) where
+module _ (s : Program) (w : ℕ → Row) (p : ℕ) (m : Player) (at_p : m.row ≡ p) (running : is_running m.shared.outcome ≡ true) where
   -- after n loads
   record Loaded (n : ℕ) (e : Player) : Type 0 where
     steps : Goes w m n e
@@ -51,7 +52,7 @@ module _ (s : Program) (w : ℕ → Row) (p : ℕ) (m : Player) (at_p : m.row �
   loaded_more n e was ld =
       let here : w e.row ≡ w (p + n) = ap w was.row_as in
       let op : (w e.row).op ≡ Load = ap (λ r. r.op) here ∙ ld.load n (omega arith) in
-      let u = load_at w e op (ap (λ h. h.outcome) was.shared_as ∙ running) in
+      let u = load_at w e op (ap (λ h. is_running h.outcome) was.shared_as ∙ running) in
       let wr : writes_now w e ≡ true = rw (u, op) refl in
       record {
         steps = steps_more w m n e was.steps (λ c. absurd (true≢false (sym c ∙ rw op)));
@@ -72,7 +73,7 @@ module _ (s : Program) (w : ℕ → Row) (p : ℕ) (m : Player) (at_p : m.row �
 
 -- the row itself, after its loads
 module _ (s : Program) (sd : Sound s) (live : ℕ → ℕ → Bool) (lv : Lively (row_of s) live) (h : List Place) (ok : Shares s live h) (w : ℕ → Row) (start : ℕ → ℕ)
-    (p m : Player) (like : Like s live h start p m) (running : p.shared.outcome ≡ 0) where
+    (p m : Player) (like : Like s live h start p m) (running : is_running p.shared.outcome ≡ true) where
   abbrev r : Row
   r = row_of s p.row
 
@@ -108,7 +109,7 @@ module _ (s : Program) (sd : Sound s) (live : ℕ → ℕ → Bool) (lv : Lively
         small = step_small;
       }
 
-  module _ (n : ℕ) (blk : Block s h w start p.row n) (e : Player) (ld : Loaded s w (start p.row) m (like.row_as running) (like.outcome_as ∙ running) n e) where
+  module _ (n : ℕ) (blk : Block s h w start p.row n) (e : Player) (ld : Loaded s w (start p.row) m (like.row_as running) (ap is_running like.outcome_as ∙ running) n e) where
     abbrev c : ℕ
     c = start p.row + n
 
@@ -152,7 +153,7 @@ module _ (s : Program) (sd : Sound s) (live : ℕ → ℕ → Bool) (lv : Lively
     cored = record {
       steps = steps_more w m n e ld.steps (λ k.
           let k' : copies r.op ≡ true = rw (row_is, blk.op) at k in (
-            ap (λ z. z.outcome) ld.shared_as ∙ like.outcome_as ∙ running,
+            ap (λ z. is_running z.outcome) ld.shared_as ∙ ap is_running like.outcome_as ∙ running,
             rw (row_is, get_a (rw (is_copy r.op k') refl), blk.dclass, ← (sd.class_a p.row k')) (like.small r.a),
           ));
       row_as = rw (core_same, row_is, ld.row_as) refl;
@@ -176,8 +177,8 @@ module _ (s : Program) (sd : Sound s) (live : ℕ → ℕ → Bool) (lv : Lively
         input_as = ap (λ z. z.input) cd.shared_as;
         output_as = ap (λ z. z.output) cd.shared_as;
         outcome_as = ap (λ z. z.outcome) cd.shared_as;
-        row_as = λ k. absurd (stop_outcome r (p.numbers r.a) (p.numbers r.b) p.shared z running k);
-        holds = λ k. absurd (stop_outcome r (p.numbers r.a) (p.numbers r.b) p.shared z running k);
+        row_as = λ k. absurd (both_ways _ (stop_outcome r (p.numbers r.a) (p.numbers r.b) p.shared z running) k);
+        holds = λ k. absurd (both_ways _ (stop_outcome r (p.numbers r.a) (p.numbers r.b) p.shared z running) k);
         small = step_small;
       }
 
@@ -225,8 +226,8 @@ module _ (s : Program) (sd : Sound s) (live : ℕ → ℕ → Bool) (lv : Lively
         f_pc : f.row ≡ suc c
         f_pc = cd.row_as ∙ rw (z, tk) refl
 
-        f_done : f.shared.outcome ≡ 0
-        f_done = ap (λ z. z.outcome) cd.shared_as ∙ ran_outcome r (p.numbers r.a) (p.numbers r.b) p.shared z ∙ running
+        f_done : is_running f.shared.outcome ≡ true
+        f_done = ap (λ z. is_running z.outcome) cd.shared_as ∙ ap is_running (ran_outcome r (p.numbers r.a) (p.numbers r.b) p.shared z) ∙ running
 
         stored : spilled h r.d ≡ true → s.vars ≤ (w c).d → (v : ℕ) → v < s.vars → live (next_row (row_of s) p) v ≡ true →
             cond (spilled h v) (put f.shared.slots (slot_of h r.d) u.value (slot_of h v)) (f.numbers v) ≡ put p.numbers r.d u.value v
@@ -278,8 +279,8 @@ first_row s h w start i zero b nc = rw (← (add-zero (start i)), b.op) nc
 first_row s h w start i (suc n) b nc = rw (← (add-zero (start i)), b.loads.load 0 (omega arith)) refl
 
 module _ (s : Program) (sd : Sound s) (live : ℕ → ℕ → Bool) (lv : Lively (row_of s) live) (h : List Place) (ok : Shares s live h) (w : ℕ → Row) (start : ℕ → ℕ)
-    (p m : Player) (like : Like s live h start p m) (running : p.shared.outcome ≡ 0) where
-  block_done : (n : ℕ) (blk : Block s h w start p.row n) (e : Player) (ld : Loaded s w (start p.row) m (like.row_as running) (like.outcome_as ∙ running) n e) →
+    (p m : Player) (like : Like s live h start p m) (running : is_running p.shared.outcome ≡ true) where
+  block_done : (n : ℕ) (blk : Block s h w start p.row n) (e : Player) (ld : Loaded s w (start p.row) m (like.row_as running) (ap is_running like.outcome_as ∙ running) n e) →
       (l : ℕ) × (f : Player) × Carried s live h w start p m l f
   block_done n blk e ld =
       let f = stepped w e in
@@ -302,5 +303,5 @@ module _ (s : Program) (sd : Sound s) (live : ℕ → ℕ → Bool) (lv : Lively
   pub carried : Stands s h w start p.row → (l : ℕ) × (f : Player) × Carried s live h w start p m l f
   carried (inl g) = (0, m, record { few = omega arith; steps = refl; like = gone s sd live lv h ok w start p m like running g; some = λ nc. absurd (both_ways _ nc g.copy) })
   carried (inr b) =
-      let x = loaded s w (start p.row) m (like.row_as running) (like.outcome_as ∙ running) b.0 b.1.loads in
+      let x = loaded s w (start p.row) m (like.row_as running) (ap is_running like.outcome_as ∙ running) b.0 b.1.loads in
       block_done b.0 b.1 x.0 x.1

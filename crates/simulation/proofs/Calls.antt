@@ -1,17 +1,19 @@
 -- Any list of calls.
-use Rattle.std.proofs.Common.{◌≡◌, ℕ, zero, suc, ◌+◌, ◌<◌, ◌≤◌, false, cond, eqb, ◌⊎◌, List, [], ◌∷◌, Ok, Err, Result, sym, refl, ap, ◌∙◌, subst, inl, inr, add-zero, add-suc}
-use Rattle.std.proofs.lemmas.Bool.{cases_eq, eq-eqb, ne_eqb, cond-true, cond-false, and_right, both_ways}
+use Rattle.std.proofs.Common.{◌≡◌, ℕ, zero, suc, ◌+◌, ◌<◌, ◌≤◌, false, cond, ◌⊎◌, List, [], ◌∷◌, Ok, Err, Result, sym, refl, ap, ◌∙◌, subst, inl, inr, add-zero, add-suc}
+use Rattle.std.proofs.lemmas.Bool.{cases_Bool, cond-true, cond-false, and_right, both_ways}
 use Rattle.faults.specs.declared.PlayerFault.{PlayerFault}
 use Rattle.rows.specs.declared.Row.{Row}
 use Rattle.rows.specs.Rows.{shape, bits, Program, row_at}
 use Rattle.registers.specs.Model.{Model}
 use Rattle.compiling.specs.Working.{Compiled}
 use Rattle.machine.specs.declared.Played.{Played}
+use Rattle.machine.specs.Machine.{is_running}
 use Rattle.machine.specs.Players.{Player, fresh, running, writes_now, stepped, run, rows_played, Steps, Runs}
 use Rattle.machine.specs.Rehearsal.{Rehearsal, opened, restarted, Call, Restart, PlaySource, PlayCode, Served, Does, Event, Rehearsed, Counts, no_counts, counted, tally}
 use Rattle.machine.specs.Agreement.{Begins, Agrees, SameAnswers}
+use Rattle.machine.proofs.Effects.{rests}
 use Rattle.simulation.specs.Static.{row_of, Static, StaticAgrees}
-use Rattle.simulation.proofs.Effects.{rests, step_rests}
+use Rattle.simulation.proofs.Effects.{step_rests}
 use Rattle.simulation.proofs.Carry.{Plays}
 use Rattle.simulation.proofs.Coded.{is_code}
 use Rattle.simulation.proofs.Whole.{turns, Chain, Met, Starts, Even, chain_join, agrees}
@@ -20,7 +22,7 @@ turns_front : (w : ℕ → Row) (p : Player) (k : ℕ) → turns w (stepped w p)
 turns_front w p zero = refl
 turns_front w p (suc k) = ap (stepped w) (turns_front w p k)
 
-turns_rests : (w : ℕ → Row) (p : Player) (k : ℕ) → (p.shared.outcome ≡ 0 → ⊥) → turns w p k ≡ p
+turns_rests : (w : ℕ → Row) (p : Player) (k : ℕ) → running p ≡ false → turns w p k ≡ p
 turns_rests w p zero z = refl
 turns_rests w p (suc k) z = ap (stepped w) (turns_rests w p k z) ∙ step_rests w p z
 
@@ -39,9 +41,9 @@ run_suc w n p = refl
 
 run_turns : (w : ℕ → Row) (n : ℕ) (p : Player) → run w p n ≡ turns w p n
 run_turns w zero p = run_zero w p
-run_turns w (suc n) p = run_suc w n p ∙ elim (cases_eq p.shared.outcome 0) [
-  | inl z ↦ cond-true _ _ _ (eq-eqb p.shared.outcome 0 z) ∙ run_turns w n (stepped w p) ∙ turns_front w p n
-  | inr z ↦ cond-false _ _ _ (ne_eqb p.shared.outcome 0 z) ∙ sym (turns_rests w p (suc n) z)
+run_turns w (suc n) p = run_suc w n p ∙ elim (cases_Bool (running p)) [
+  | inl z ↦ cond-true _ _ _ z ∙ run_turns w n (stepped w p) ∙ turns_front w p n
+  | inr z ↦ cond-false _ _ _ z ∙ sym (turns_rests w p (suc n) z)
 ]
 
 rows_zero : (w : ℕ → Row) (p : Player) → rows_played w p 0 ≡ 0
@@ -54,13 +56,10 @@ rows_suc w n p = refl
 
 turns_rows : (w : ℕ → Row) (n : ℕ) (p : Player) → turns w p (rows_played w p n) ≡ turns w p n
 turns_rows w zero p = ap (turns w p) (rows_zero w p)
-turns_rows w (suc n) p = ap (turns w p) (rows_suc w n p) ∙ elim (cases_eq p.shared.outcome 0) [
-  | inl z ↦ ap (turns w p) (cond-true _ _ _ (eq-eqb p.shared.outcome 0 z)) ∙ sym (turns_front w p (rows_played w (stepped w p) n)) ∙ turns_rows w n (stepped w p) ∙ turns_front w p n
-  | inr z ↦ ap (turns w p) (cond-false _ _ _ (ne_eqb p.shared.outcome 0 z)) ∙ sym (turns_rests w p (suc n) z)
+turns_rows w (suc n) p = ap (turns w p) (rows_suc w n p) ∙ elim (cases_Bool (running p)) [
+  | inl z ↦ ap (turns w p) (cond-true _ _ _ z) ∙ sym (turns_front w p (rows_played w (stepped w p) n)) ∙ turns_rows w n (stepped w p) ∙ turns_front w p n
+  | inr z ↦ ap (turns w p) (cond-false _ _ _ z) ∙ sym (turns_rests w p (suc n) z)
 ]
-
-ended : (p : Player) → running p ≡ false → p.shared.outcome ≡ 0 → ⊥
-ended p z q = both_ways (running p) z (eq-eqb p.shared.outcome 0 q)
 
 module _ (f : Model) (code : ℕ → Row) where
   steps_plays : (c e : Player) → Steps f code c e → Plays f code c e
@@ -72,7 +71,7 @@ module _ (f : Model) (code : ℕ → Row) where
     spares = λ z s o. (st.written z).kept s o;
   }
 
-  rest_plays : (c : Player) → (c.shared.outcome ≡ 0 → ⊥) → Plays f code c c
+  rest_plays : (c : Player) → running c ≡ false → Plays f code c c
   rest_plays c z =
       let u = rests (code c.row) (c.numbers (code c.row).a) (c.numbers (code c.row).b) c.shared z in
       let off : writes_now code c ≡ false = rw u (and_right (shape (code c.row).op).d false refl) in
@@ -84,13 +83,13 @@ module _ (f : Model) (code : ℕ → Row) where
         spares = λ y. absurd (both_ways (writes_now code c) off y);
       }
 
-  rest_chain : (k : ℕ) (c : Player) → (c.shared.outcome ≡ 0 → ⊥) → Chain f code c k c
+  rest_chain : (k : ℕ) (c : Player) → running c ≡ false → Chain f code c k c
   rest_chain zero c z = refl
   rest_chain (suc k) c z = (c, rest_plays c z, rest_chain k c z)
 
   runs_asked : (n k : ℕ) (c e : Player) → Runs f code c n k e → Chain f code c n e
   runs_asked zero k c e (_, q) = sym q
-  runs_asked (suc n) k c e (inl (off, _, q)) = subst (λ y. Chain f code c (suc n) y) (sym q) (rest_chain (suc n) c (ended c off))
+  runs_asked (suc n) k c e (inl (off, _, q)) = subst (λ y. Chain f code c (suc n) y) (sym q) (rest_chain (suc n) c off)
   runs_asked (suc n) k c e (inr (_, (x, j, st, more, _))) = (x, steps_plays c x st, runs_asked n j x e more)
 
   runs_played : (n k : ℕ) (c e : Player) → Runs f code c n k e → Chain f code c k e
@@ -101,8 +100,8 @@ module _ (f : Model) (code : ℕ → Row) where
 module _ (s : Program) (rows : List Row) (f : Model) where
   -- where both sides started, and how they came here: by the rows asked for, and by the rows played
   record Kept (t : Rehearsal) (k : Counts) : Type 0 where
-    source_rows_lem : t.source_rows ≡ s.rows
-    code_rows_lem : t.code_rows ≡ rows
+    source_rows : t.source_rows ≡ s.rows
+    code_rows : t.code_rows ≡ rows
     p₀ : Player
     c₀ : Player
     starts : Starts p₀ c₀
@@ -116,8 +115,8 @@ module _ (s : Program) (rows : List Row) (f : Model) where
 
   starting : (r : Rehearsal) (k : Counts) (xs : List ℕ) → Kept r k → Kept (restarted xs r) no_counts
   starting r k xs kp = record {
-    source_rows_lem = kp.source_rows_lem;
-    code_rows_lem = kp.code_rows_lem;
+    source_rows = kp.source_rows;
+    code_rows = kp.code_rows;
     p₀ = fresh (λ _. 0) (λ _. 0) xs;
     c₀ = fresh r.code.numbers r.code.shared.slots xs;
     starts = fresh_starts r.code.numbers (λ _. 0) r.code.shared.slots xs;
@@ -130,11 +129,11 @@ module _ (s : Program) (rows : List Row) (f : Model) where
   served : (x : Call) (r : Rehearsal) (a : Played) (t : Rehearsal) (k : Counts) → Served f x r a t → Kept r k → Kept t (counted k x (Ok a))
   served (Restart xs) r a t k (_, q) kp = subst (λ y. Kept y no_counts) (sym q) (starting r k xs kp)
   served (PlaySource n) r a t k (aq, tq) kp =
-      let now : t.source ≡ turns (row_of s) r.source n = ap (λ y. y.source) tq ∙ ap (λ l. run (row_at l) r.source n) kp.source_rows_lem ∙ run_turns (row_of s) n r.source in
-      let all : a.rows ≡ rows_played (row_of s) r.source n = ap (λ y. y.rows) aq ∙ ap (λ l. rows_played (row_at l) r.source n) kp.source_rows_lem in
+      let now : t.source ≡ turns (row_of s) r.source n = ap (λ y. y.source) tq ∙ ap (λ l. run (row_at l) r.source n) kp.source_rows ∙ run_turns (row_of s) n r.source in
+      let all : a.rows ≡ rows_played (row_of s) r.source n = ap (λ y. y.rows) aq ∙ ap (λ l. rows_played (row_at l) r.source n) kp.source_rows in
       record {
-        source_rows_lem = ap (λ y. y.source_rows) tq ∙ kp.source_rows_lem;
-        code_rows_lem = ap (λ y. y.code_rows) tq ∙ kp.code_rows_lem;
+        source_rows = ap (λ y. y.source_rows) tq ∙ kp.source_rows;
+        code_rows = ap (λ y. y.code_rows) tq ∙ kp.code_rows;
         p₀ = kp.p₀;
         c₀ = kp.c₀;
         starts = kp.starts;
@@ -144,10 +143,10 @@ module _ (s : Program) (rows : List Row) (f : Model) where
         c_played = subst (λ y. Chain f (row_at rows) kp.c₀ k.code_played y) (sym (ap (λ y. y.code) tq)) kp.c_played;
       }
   served (PlayCode n) r a t k (rn, _, tq) kp =
-      let runs : Runs f (row_at rows) r.code n a.rows t.code = subst (λ l. Runs f (row_at l) r.code n a.rows t.code) kp.code_rows_lem rn in
+      let runs : Runs f (row_at rows) r.code n a.rows t.code = subst (λ l. Runs f (row_at l) r.code n a.rows t.code) kp.code_rows rn in
       record {
-        source_rows_lem = ap (λ y. y.source_rows) tq ∙ kp.source_rows_lem;
-        code_rows_lem = ap (λ y. y.code_rows) tq ∙ kp.code_rows_lem;
+        source_rows = ap (λ y. y.source_rows) tq ∙ kp.source_rows;
+        code_rows = ap (λ y. y.code_rows) tq ∙ kp.code_rows;
         p₀ = kp.p₀;
         c₀ = kp.c₀;
         starts = kp.starts;
@@ -173,11 +172,11 @@ module _ (s : Program) (rows : List Row) (f : Model) where
       record {
         outputs = subst (λ y. Begins y.shared.output t.code.shared.output ⊎ Begins t.code.shared.output y.shared.output) (sym kp.p_asked) (one k.source_asked k.code_asked t.code kp.c_asked).0;
         by_source = λ z h.
-            let even : Even t.source t.code = subst (λ y. Even y t.code) (sym kp.p_played) ((one k.source_played k.code_asked t.code kp.c_asked).1 (subst (λ y. y.shared.outcome ≡ 0 → ⊥) kp.p_played (ended t.source z)) h) in
-            record { source_ended = z; code_ended = ap (λ o. eqb o 0) even.0 ∙ z; outcomes = sym even.0; outputs = sym even.1 };
+            let even : Even t.source t.code = subst (λ y. Even y t.code) (sym kp.p_played) ((one k.source_played k.code_asked t.code kp.c_asked).1 (ap running (sym kp.p_played) ∙ z) h) in
+            record { source_ended = z; code_ended = ap is_running even.0 ∙ z; outcomes = sym even.0; outputs = sym even.1 };
         by_code = λ z h.
-            let even : Even t.source t.code = subst (λ y. Even y t.code) (sym kp.p_asked) ((one k.source_asked k.code_played t.code kp.c_played).2 (ended t.code z) h) in
-            record { source_ended = ap (λ o. eqb o 0) (sym even.0) ∙ z; code_ended = z; outcomes = sym even.0; outputs = sym even.1 };
+            let even : Even t.source t.code = subst (λ y. Even y t.code) (sym kp.p_asked) ((one k.source_asked k.code_played t.code kp.c_played).2 z h) in
+            record { source_ended = ap is_running (sym even.0) ∙ z; code_ended = z; outcomes = sym even.0; outputs = sym even.1 };
       }
 
 -- a bank of the file meets what the file meets
@@ -208,8 +207,8 @@ meets c file st bank same = record {
 pub static_agrees : StaticAgrees
 static_agrees c file st bank same numbers slots es t re =
     let opens : Kept c.source c.rows bank (opened c numbers slots) no_counts = record {
-      source_rows_lem = refl;
-      code_rows_lem = refl;
+      source_rows = refl;
+      code_rows = refl;
       p₀ = fresh (λ _. 0) (λ _. 0) [];
       c₀ = fresh numbers slots [];
       starts = fresh_starts c.source c.rows bank numbers (λ _. 0) slots [];

@@ -7,9 +7,10 @@ use Rattle.rows.specs.Rows.{shape, copies, bits}
 use Rattle.registers.specs.Model.{Model}
 use Rattle.compiling.specs.Emit.{idle}
 use Rattle.machine.specs.Machine.{effect}
-use Rattle.machine.specs.Players.{Player, at, writes_now, next_row, stepped}
+use Rattle.machine.specs.Players.{Player, running, at, writes_now, next_row, stepped}
+use Rattle.machine.proofs.Effects.{jumped_may}
 use Rattle.simulation.specs.Static.{Lively}
-use Rattle.simulation.proofs.Effects.{effect_same, write_on, value_small, put_same, put_other, is_copy, copy_effect, arrives, jumped_may}
+use Rattle.simulation.proofs.Effects.{effect_same, write_on, value_small, put_same, put_other, is_copy, copy_effect, arrives}
 
 -- one row of code, on a bank that keeps what its write promises, but for the width of other registers: so there always is a next row
 pub record Plays (m : Model) (w : ℕ → Row) (c e : Player) : Type 0 where
@@ -132,7 +133,7 @@ module _ (f : Model) (w code : ℕ → Row) (live : ℕ → ℕ → Bool) (reg :
         ];
       }
 
-  pub passed : (m c : Player) → Matched w live reg m c → idle reg (w m.row) ≡ true → m.shared.outcome ≡ 0 → m.numbers (w m.row).a < 2 ^ bits (w m.row).dclass → Matched w live reg (stepped w m) c
+  pub passed : (m c : Player) → Matched w live reg m c → idle reg (w m.row) ≡ true → running m ≡ true → m.numbers (w m.row).a < 2 ^ bits (w m.row).dclass → Matched w live reg (stepped w m) c
   unfolding stepped
   passed m c mt dr z b =
       let r = w m.row in

@@ -1,14 +1,15 @@
 -- What the effect of a row hangs on, and where a row may go.
-use Rattle.std.proofs.Common.{◌≡◌, ℕ, suc, ◌%◌, ◌^◌, ◌<◌, Bool, true, false, eqb, ◌⊎◌, List, [], ◌∷◌, ◌++◌, sym, refl, ap, ◌∙◌, inl, inr, append_assoc, append-nil, mod-lt, mod-eq_of_lt, arith, pow_pos}
-use Rattle.std.proofs.lemmas.Bool.{cases_Bool, eq-eqb, ne_eqb, cond-true, cond-false, and_from, and_right, lt-ltb}
-use Rattle.std.proofs.lemmas.Bool.Decides.{nat_tests}
+use Rattle.std.proofs.Common.{◌≡◌, ℕ, suc, ◌%◌, ◌^◌, ◌<◌, Bool, true, false, eqb, ◌⊎◌, List, [], ◌∷◌, ◌++◌, Err, sym, refl, ap, ◌∙◌, inl, inr, append_assoc, append-nil, mod-lt, mod-eq_of_lt, arith, pow_pos}
+use Rattle.std.proofs.lemmas.Bool.{cases_Bool, eq-eqb, ne_eqb, cond-true, cond-false, and_from, and_right, both_ways, true≢false, false≢true, lt-ltb}
 use Rattle.rows.specs.declared.Op.{Op}
 use Rattle.rows.specs.declared.Op.TheVariants.{End, Const, Copy, Add, Sub, And, Xor, Widen, Narrow, Input, Output, Jump, Less, Load, Store}
 use Rattle.rows.specs.declared.Row.{Row}
 use Rattle.rows.specs.Rows.{shape, copies, bits}
-use Rattle.machine.specs.Machine.{Shared, put, Meaning, meaning, jumps, Effect, halted, effect}
-use Rattle.machine.specs.Players.{Player, at, writes_now, next_row, stepped}
+use Rattle.machine.specs.declared.Outcome.{Outcome}
+use Rattle.machine.specs.Machine.{is_running, Shared, put, Meaning, meaning, jumps, Effect, effect}
+use Rattle.machine.specs.Players.{Player, running, at, writes_now, next_row, stepped}
 use Rattle.machine.specs.Agreement.{Begins}
+use Rattle.machine.proofs.Effects.{cases_Result, rests, Rests, Ends, Goes, ways, jumped_may, falls_may}
 use Rattle.simulation.specs.Static.{Lively}
 
 -- only what is read bears on the meaning
@@ -34,36 +35,18 @@ pub effect_same : (r : Row) (x x' y y' : ℕ) (h : Shared) → ((shape r.op).a �
 unfolding effect
 effect_same r x x' y y' h p q = let (m, j) = meaning_same r.op x x' y y' r.constant r.slot h p q in rw (m, j)
 
--- a row that runs on goes to a row that it may go to
-jumps_to : (o : Op) (x y : ℕ) → jumps o x y ≡ true → (shape o).target ≡ true
-jumps_to o x y h = grind arith
-
-goes_on_lem : (o : Op) (x y k s : ℕ) (h : Shared) → (meaning o x y k s h).outcome ≡ 0 → jumps o x y ≡ false → (shape o).falls ≡ true
-goes_on_lem o x y k s h e t = grind arith
-
 write_falls : (o : Op) (x y : ℕ) → (shape o).d ≡ true → jumps o x y ≡ false
 write_falls o x y h = grind arith
-
-pub jumped_may : (r : Row) (x y : ℕ) (h : Shared) → (effect r x y h).jumped ≡ true → (shape r.op).target ≡ true
-unfolding effect
-jumped_may r x y h t = grind (arith, jumps_to r.op x y)
-
-pub falls_may : (r : Row) (x y : ℕ) (h : Shared) → (effect r x y h).ran ≡ true → (effect r x y h).jumped ≡ false → (shape r.op).falls ≡ true
-unfolding effect
-falls_may r x y h e t = grind (arith, nat_tests, goes_on_lem r.op x y r.constant r.slot h)
 
 pub write_on : (r : Row) (x y : ℕ) (h : Shared) → (shape r.op).d ≡ true → (effect r x y h).jumped ≡ false
 unfolding effect
 write_on r x y h e = grind (arith, write_falls r.op x y)
 
 pub value_small : (r : Row) (x y : ℕ) (h : Shared) → (effect r x y h).value < 2 ^ bits r.dclass
-unfolding effect
-value_small r x y h = elim (cases_Bool (eqb h.outcome 0)) [
-  | inr z ↦ rw z (pow_pos (bits r.dclass))
-  | inl z ↦ rw z (elim (cases_Bool (eqb (meaning r.op x y r.constant r.slot h).outcome 0)) [
-    | inr q ↦ rw q (pow_pos (bits r.dclass))
-    | inl q ↦ rw q (mod-lt (meaning r.op x y r.constant r.slot h).value (pow_pos (bits r.dclass)))
-  ])
+value_small r x y h = elim (ways r x y h) [
+  | Rests z e ↦ rw e (pow_pos (bits r.dclass))
+  | Ends o z a e ↦ rw e (pow_pos (bits r.dclass))
+  | Goes v z a e ↦ rw e (mod-lt v (pow_pos (bits r.dclass)))
 ]
 
 pub put_same : (k : ℕ → ℕ) (i x j : ℕ) → j ≡ i → put k i x j ≡ x
@@ -75,9 +58,9 @@ put_other k i x j e = cond-false (eqb j i) x (k j) (ne_eqb j i e)
 pub is_copy : (o : Op) → copies o ≡ true → o ≡ Copy
 is_copy o h = grind arith
 
-pub copy_effect : (r : Row) (x y : ℕ) (h : Shared) → copies r.op ≡ true → h.outcome ≡ 0 → x < 2 ^ bits r.dclass → effect r x y h ≡ record { shared = h; ran = true; value = x; jumped = false }
+pub copy_effect : (r : Row) (x y : ℕ) (h : Shared) → copies r.op ≡ true → is_running h.outcome ≡ true → x < 2 ^ bits r.dclass → effect r x y h ≡ record { shared = h; ran = true; value = x; jumped = false }
 unfolding effect
-copy_effect r x y h c z b = rw (is_copy r.op c, eq-eqb h.outcome 0 z) (ap (λ v. record { shared = h; ran = true; value = v; jumped = false }) (mod-eq_of_lt b))
+copy_effect r x y h c z b = rw (is_copy r.op c, z) (ap (λ v. record { shared = h; ran = true; value = v; jumped = false }) (mod-eq_of_lt b))
 
 -- what is live where the row goes was live before it, unless the row wrote it
 pub arrives : (w : ℕ → Row) (live : ℕ → ℕ → Bool) → Lively w live → (m : Player) (v : ℕ) → live (next_row w m) v ≡ true → (writes_now w m ≡ true → v ≡ (w m.row).d → ⊥) → live m.row v ≡ true
@@ -101,7 +84,7 @@ abbrev pub lifted : (ℕ → ℕ) → Effect → Effect
 lifted σ u = record { shared = with_slots σ u.shared; ran = u.ran; value = u.value; jumped = u.jumped }
 
 abbrev pub meant : (ℕ → ℕ) → Meaning → Meaning
-meant σ m = record { outcome = m.outcome; value = m.value; shared = with_slots σ m.shared }
+meant σ m = record { answer = m.answer; shared = with_slots σ m.shared }
 
 -- a plain row neither reads nor changes the slots
 meaning_slots : (o : Op) (x y k s s' : ℕ) (σ : ℕ → ℕ) (h : Shared) → (shape o).slot ≡ false → meaning o x y k s' (with_slots σ h) ≡ meant σ (meaning o x y k s h)
@@ -114,30 +97,39 @@ unfolding effect
 effect_slots r r' x y h h' o b k p i u d =
     let hh : h' ≡ with_slots h'.slots h = λ j. record { slots = h'.slots; input = i j; output = u j; outcome = d j } in
     ap (λ z. effect r' x y z) hh ∙ rw (o, b, k, meaning_slots r.op x y r.constant r.slot r'.slot h'.slots h p)
-    (elim (cases_Bool (eqb h.outcome 0)) [
-      | inl z ↦ rw z (elim (cases_Bool (eqb (meaning r.op x y r.constant r.slot h).outcome 0)) [ inl q ↦ rw q | inr q ↦ rw q ])
+    (elim (cases_Bool (is_running h.outcome)) [
+      | inl z ↦ rw z (elim (cases_Result (meaning r.op x y r.constant r.slot h).answer) [ inl (v, e) ↦ rw e | inr (q, e) ↦ rw e ])
       | inr z ↦ rw z
     ])
 
-pub load_at : (w : ℕ → Row) (m : Player) → (w m.row).op ≡ Load → m.shared.outcome ≡ 0 → at w m ≡ record { shared = m.shared; ran = true; value = m.shared.slots (w m.row).slot % 2 ^ bits (w m.row).dclass; jumped = false }
+pub load_at : (w : ℕ → Row) (m : Player) → (w m.row).op ≡ Load → running m ≡ true → at w m ≡ record { shared = m.shared; ran = true; value = m.shared.slots (w m.row).slot % 2 ^ bits (w m.row).dclass; jumped = false }
 unfolding effect
-load_at w m o z = rw (o, eq-eqb m.shared.outcome 0 z)
+load_at w m o z = rw (o, z)
 
-pub store_at : (w : ℕ → Row) (m : Player) → (w m.row).op ≡ Store → (w m.row).slot < 64 → m.shared.outcome ≡ 0 →
+pub store_at : (w : ℕ → Row) (m : Player) → (w m.row).op ≡ Store → (w m.row).slot < 64 → running m ≡ true →
     ((at w m).ran ≡ true) × ((at w m).jumped ≡ false) × ((at w m).shared ≡ with_slots (put m.shared.slots (w m.row).slot (m.numbers (w m.row).a)) m.shared)
 unfolding effect
-store_at w m o few z = (rw (o, eq-eqb m.shared.outcome 0 z), rw (o, eq-eqb m.shared.outcome 0 z), rw (o, eq-eqb m.shared.outcome 0 z, lt-ltb (w m.row).slot 64 few))
+store_at w m o few z = (rw (o, z), rw (o, z), rw (o, z, lt-ltb (w m.row).slot 64 few))
 
 meaning_outcome : (o : Op) (x y k s : ℕ) (h : Shared) → (meaning o x y k s h).shared.outcome ≡ h.outcome
 meaning_outcome o x y k s h = grind arith
 
-pub ran_outcome : (r : Row) (x y : ℕ) (h : Shared) → (effect r x y h).ran ≡ true → (effect r x y h).shared.outcome ≡ h.outcome
-unfolding effect
-ran_outcome r x y h e = grind (arith, meaning_outcome r.op x y r.constant r.slot h)
+stops : (o : Op) (x y k s : ℕ) (h : Shared) (q : Outcome) → (meaning o x y k s h).answer ≡ Err q → is_running q ≡ false
+stops o x y k s h q e = grind arith
 
-pub stop_outcome : (r : Row) (x y : ℕ) (h : Shared) → (effect r x y h).ran ≡ false → h.outcome ≡ 0 → (effect r x y h).shared.outcome ≡ 0 → ⊥
-unfolding effect
-stop_outcome r x y h e z k = grind (arith, nat_tests)
+pub ran_outcome : (r : Row) (x y : ℕ) (h : Shared) → (effect r x y h).ran ≡ true → (effect r x y h).shared.outcome ≡ h.outcome
+ran_outcome r x y h n = elim (ways r x y h) [
+  | Rests z e ↦ absurd (false≢true (rw e at n))
+  | Ends o z a e ↦ absurd (false≢true (rw e at n))
+  | Goes v z a e ↦ rw e (meaning_outcome r.op x y r.constant r.slot h)
+]
+
+pub stop_outcome : (r : Row) (x y : ℕ) (h : Shared) → (effect r x y h).ran ≡ false → is_running h.outcome ≡ true → is_running (effect r x y h).shared.outcome ≡ false
+stop_outcome r x y h n on = elim (ways r x y h) [
+  | Rests z e ↦ absurd (both_ways _ z on)
+  | Ends o z a e ↦ rw e (stops r.op x y r.constant r.slot h o a)
+  | Goes v z a e ↦ absurd (true≢false (rw e at n))
+]
 
 -- output only grows, and an ended player rests
 pub begins_same : (xs : List ℕ) → Begins xs xs
@@ -150,24 +142,17 @@ out_or : (o : Op) (x y k s : ℕ) (h : Shared) → ((meaning o x y k s h).shared
 out_or o x y k s h = grind arith
 
 pub grows : (r : Row) (x y : ℕ) (h : Shared) → Begins h.output (effect r x y h).shared.output
-unfolding effect
-grows r x y h = elim (cases_Bool (eqb h.outcome 0)) [
-  | inr z ↦ rw z (begins_same h.output)
-  | inl z ↦ rw z (elim (cases_Bool (eqb (meaning r.op x y r.constant r.slot h).outcome 0)) [
-    | inr q ↦ rw q (begins_same h.output)
-    | inl q ↦ rw q (elim (out_or r.op x y r.constant r.slot h) [ inl k ↦ rw k (begins_same h.output) | inr k ↦ (x ∷ [], k) ])
-  ])
+grows r x y h = elim (ways r x y h) [
+  | Rests z e ↦ rw e (begins_same h.output)
+  | Ends o z a e ↦ rw e (begins_same h.output)
+  | Goes v z a e ↦ rw e (elim (out_or r.op x y r.constant r.slot h) [ inl k ↦ rw k (begins_same h.output) | inr k ↦ (x ∷ [], k) ])
 ]
 
-pub rests : (r : Row) (x y : ℕ) (h : Shared) → (h.outcome ≡ 0 → ⊥) → effect r x y h ≡ halted h.outcome h
+pub copy_next : (w : ℕ → Row) (p : Player) → copies (w p.row).op ≡ true → running p ≡ true → next_row w p ≡ suc p.row
 unfolding effect
-rests r x y h z = rw (ne_eqb h.outcome 0 z)
+copy_next w p c z = rw (is_copy (w p.row).op c, z)
 
-pub copy_next : (w : ℕ → Row) (p : Player) → copies (w p.row).op ≡ true → p.shared.outcome ≡ 0 → next_row w p ≡ suc p.row
-unfolding effect
-copy_next w p c z = rw (is_copy (w p.row).op c, eq-eqb p.shared.outcome 0 z)
-
-pub step_rests : (w : ℕ → Row) (q : Player) → (q.shared.outcome ≡ 0 → ⊥) → stepped w q ≡ q
+pub step_rests : (w : ℕ → Row) (q : Player) → running q ≡ false → stepped w q ≡ q
 unfolding stepped
 step_rests w q z =
     let u = rests (w q.row) (q.numbers (w q.row).a) (q.numbers (w q.row).b) q.shared z in

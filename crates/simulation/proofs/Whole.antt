@@ -1,16 +1,18 @@
 -- Blocks and registers together, over whole runs.
 use Rattle.std.proofs.Common.{◌≡◌, ℕ, zero, suc, ◌+◌, ◌-◌, ◌*◌, ◌%◌, ◌^◌, ◌<◌, ◌≤◌, Bool, true, false, cond, ◌&&◌, ltb, ◌⊎◌, List, length, sym, refl, ap, ◌∙◌, subst, inl, inr, zero-add, arith, pow_pos}
-use Rattle.std.proofs.lemmas.Bool.{cases_Bool, cases_lt, cases_eq, and_parts, both_ways, false≢true, lt-ltb, le-ltb}
+use Rattle.std.proofs.lemmas.Bool.{cases_Bool, cases_lt, and_parts, both_ways, false≢true, lt-ltb, le-ltb}
 use Rattle.rows.specs.declared.Row.{Row}
 use Rattle.rows.specs.Rows.{copies, bits, Program}
 use Rattle.registers.specs.Model.{Model}
 use Rattle.compiling.specs.declared.Place.{Place}
 use Rattle.compiling.specs.Emit.{idle}
-use Rattle.machine.specs.Machine.{put}
-use Rattle.machine.specs.Players.{Player, at, writes_now, next_row, stepped}
+use Rattle.machine.specs.declared.Outcome.TheVariants.{Running}
+use Rattle.machine.specs.Machine.{is_running, put}
+use Rattle.machine.specs.Players.{Player, running, at, writes_now, next_row, stepped}
 use Rattle.machine.specs.Agreement.{Begins}
+use Rattle.machine.proofs.Effects.{rests, jumped_may, falls_may}
 use Rattle.simulation.specs.Static.{row_of, class_of, Sound, Lively, Shares, Stands}
-use Rattle.simulation.proofs.Effects.{jumped_may, falls_may, put_same, put_other, begins_same, begins_trans, grows, rests, copy_next, step_rests, step_row}
+use Rattle.simulation.proofs.Effects.{put_same, put_other, begins_same, begins_trans, grows, copy_next, step_rests, step_row}
 use Rattle.simulation.proofs.Carry.{Plays, Given, IsCode, Matched, kept, passed}
 use Rattle.simulation.proofs.Blocks.{Like, Goes, carried}
 
@@ -50,8 +52,8 @@ pub record Starts (p c : Player) : Type 0 where
   pub p_numbers : (v : ℕ) → p.numbers v ≡ 0
   pub input : c.shared.input ≡ p.shared.input
   pub output : c.shared.output ≡ p.shared.output
-  pub p_outcome : p.shared.outcome ≡ 0
-  pub c_outcome : c.shared.outcome ≡ 0
+  pub p_outcome : p.shared.outcome ≡ Running
+  pub c_outcome : c.shared.outcome ≡ Running
 
 abbrev pub Even : Player → Player → Type 0
 Even p e = (e.shared.outcome ≡ p.shared.outcome) × (e.shared.output ≡ p.shared.output)
@@ -74,7 +76,7 @@ module _ (f : Model) (code : ℕ → Row) where
   chain_grows (suc k) c e (x, pl, ch) = begins_trans c.shared.output x.shared.output e.shared.output
       (rw pl.shared_is (grows (code c.row) _ _ c.shared)) (chain_grows k x e ch)
 
-  chain_rests : (k : ℕ) (c e : Player) → (c.shared.outcome ≡ 0 → ⊥) → Chain f code c k e → e.shared ≡ c.shared
+  chain_rests : (k : ℕ) (c e : Player) → running c ≡ false → Chain f code c k e → e.shared ≡ c.shared
   chain_rests zero c e z q = ap (λ x. x.shared) (sym q)
   chain_rests (suc k) c e z (x, pl, ch) =
       let same : x.shared ≡ c.shared = pl.shared_is ∙ ap (λ u. u.shared) (rests (code c.row) _ _ c.shared z) in
@@ -141,7 +143,7 @@ module _ (s : Program) (f : Model) (code : ℕ → Row) (k : Met s f code) (p c 
     like : Like s k.live k.h k.start q m
     code_at : (e : Player) → Chain f code c j e → Matched k.w k.live_w k.reg m e
     most : j ≤ 4 * n
-    pace : q.shared.outcome ≡ 0 → n ≤ 128 * j + q.row
+    pace : running q ≡ true → n ≤ 128 * j + q.row
     within : q.row < length s.rows
 
   first : Player
@@ -174,7 +176,7 @@ module _ (s : Program) (f : Model) (code : ℕ → Row) (k : Met s f code) (p c 
   ]
 
   reached_more : (n : ℕ) (q m : Player) (j : ℕ) → Reached n q m j → (e : Player) × (i : ℕ) × Reached (suc n) (stepped (row_of s) q) e i
-  reached_more n q m j r = elim (cases_eq q.shared.outcome 0) [
+  reached_more n q m j r = elim (cases_Bool (running q)) [
     | inr z ↦
         (let same = step_rests (row_of s) q z in (
           m,
@@ -183,7 +185,7 @@ module _ (s : Program) (f : Model) (code : ℕ → Row) (k : Met s f code) (p c 
             like = r.like;
             code_at = r.code_at;
             most = omega (arith, r.most);
-            pace = λ d. absurd (z d);
+            pace = λ d. absurd (both_ways _ z d);
             within = r.within;
           }),
         ))
@@ -245,33 +247,33 @@ module _ (s : Program) (f : Model) (code : ℕ → Row) (k : Met s f code) (p c 
       | inr h ↦ (let (x, o, d, more) = behind h in inl (rw (← o) (chain_grows f code (j - i) x e more)))
     ]
 
-    alike_behind : i ≤ j → (q.shared.outcome ≡ 0 → ⊥) → Even q e
+    alike_behind : i ≤ j → running q ≡ false → Even q e
     unfolding Behind
     alike_behind h z =
         let (x, o, d, more) = behind h in
-        let rest = chain_rests f code (j - i) x e (λ y. z (sym d ∙ y)) more in
+        let rest = chain_rests f code (j - i) x e (ap is_running d ∙ z) more in
         (ap (λ s. s.outcome) rest ∙ d, ap (λ s. s.output) rest ∙ o)
 
-    alike_ahead : j ≤ i → (e.shared.outcome ≡ 0 → ⊥) → Even q e
+    alike_ahead : j ≤ i → running e ≡ false → Even q e
     unfolding Ahead
     alike_ahead h z =
         let (x, o, d, more) = ahead h in
         let rest = chain_rests f code (i - j) e x z more in
         (sym (ap (λ s. s.outcome) rest) ∙ d, sym (ap (λ s. s.output) rest) ∙ o)
 
-    code_follows : (q.shared.outcome ≡ 0 → ⊥) → 4 * n ≤ j → Even q e
+    code_follows : running q ≡ false → 4 * n ≤ j → Even q e
     code_follows z h = alike_behind (omega (arith, r.most)) z
 
-    source_follows : (e.shared.outcome ≡ 0 → ⊥) → 128 * j ≤ n → Even q e
-    source_follows z h = elim (cases_eq q.shared.outcome 0) [
+    source_follows : running e ≡ false → 128 * j ≤ n → Even q e
+    source_follows z h = elim (cases_Bool (running q)) [
       | inl y ↦ alike_ahead (omega (arith, r.pace y, r.within, k.sound.most)) z
       | inr y ↦ elim (cases_lt j i) [ inl b ↦ alike_ahead (omega arith) z | inr b ↦ alike_behind b y ]
     ]
 
   pub agrees : (n j : ℕ) (e : Player) → Chain f code c j e →
       (Begins (turns (row_of s) p n).shared.output e.shared.output ⊎ Begins e.shared.output (turns (row_of s) p n).shared.output)
-      × (((turns (row_of s) p n).shared.outcome ≡ 0 → ⊥) → 4 * n ≤ j → Even (turns (row_of s) p n) e)
-      × ((e.shared.outcome ≡ 0 → ⊥) → 128 * j ≤ n → Even (turns (row_of s) p n) e)
+      × (running (turns (row_of s) p n) ≡ false → 4 * n ≤ j → Even (turns (row_of s) p n) e)
+      × (running e ≡ false → 128 * j ≤ n → Even (turns (row_of s) p n) e)
   agrees n j e ch =
       let (m, i, r) = reached n in
       let q = turns (row_of s) p n in

@@ -7,6 +7,7 @@ use Rattle.worked.specs.Table.{Cases}
 pub cases : Cases
 unfolding compile outputs answered counts
 cases = record {
+  numbers = refl;
   ends = refl;
   merged_nested = refl;
   merged_paired = refl;

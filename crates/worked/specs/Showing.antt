@@ -1,5 +1,5 @@
 -- What a rehearsal shows: a file compiled and opened on a chip full of garbage, a list of calls, and the end.
-use Rattle.std.specs.Prelude.{ℕ, zero, suc, ◌+◌, ◌*◌, ◌%◌, ◌^◌, List, [], ◌∷◌, ◌++◌, map, Ok, Err, Result}
+use Rattle.std.specs.Prelude.{ℕ, zero, suc, ◌+◌, ◌*◌, ◌%◌, ◌^◌, List, [], ◌∷◌, ◌++◌, map, Ok, Err, Result, slice_index_or}
 use Rattle.counting.specs.Counting.{range}
 use Rattle.faults.specs.declared.Refusal.{Refusal}
 use Rattle.faults.specs.declared.ProgramFault.{ProgramFault}
@@ -11,6 +11,8 @@ use Rattle.registers.specs.Runs.{held, patched}
 use Rattle.registers.specs.Description.{Description, fenced, lowest}
 use Rattle.compiling.specs.Working.{Compiled}
 use Rattle.compiling.specs.Compile.{compile}
+use Rattle.machine.specs.declared.Outcome.{Outcome}
+use Rattle.machine.specs.declared.Outcome.TheVariants.{Running, Ended, Starved, Full}
 use Rattle.machine.specs.declared.Played.{Played}
 use Rattle.machine.specs.Rehearsal.{Call, opened, Event, Counts, no_counts, tally}
 use Rattle.machine.specs.OnBits.{Stage, called_on}
@@ -26,7 +28,7 @@ litter s = (s * 40503 + 7) % 2 ^ 32
 
 -- the answers, both outputs, the numbers of registers and slots; or the refusal of the file
 pub data Shown : Type 0 where
-  Shows : List (Result Played PlayerFault) → (sourceOut codeOut registers slots : List ℕ) → Shown
+  Shows : List (Result Played PlayerFault) → (source_out code_out registers slots : List ℕ) → Shown
   Refuses : Refusal → Shown
 
 -- the end of a rehearsal, behind the answers given so far
@@ -50,9 +52,13 @@ unfoldable pub rehearse : Description → List ℕ → List Call → Shown
 unfolding compile shown_by
 rehearse d bs xs = shown_by d xs (compile (fenced d) bs)
 
--- a served call: the rows played and the outcome
+-- the outcome with a number
+abbrev pub outcome_of : ℕ → Outcome
+outcome_of n = slice_index_or (Running ∷ Ended ∷ Starved ∷ Full ∷ []) n Full
+
+-- a served call: the rows played and the number of the outcome
 abbrev pub served : (rows outcome : ℕ) → Result Played PlayerFault
-served rows outcome = Ok (record { rows = rows; outcome = outcome })
+served rows outcome = Ok (record { rows = rows; outcome = outcome_of outcome })
 
 -- a restart refused
 abbrev pub long_input : Result Played PlayerFault
@@ -64,7 +70,7 @@ many_rows = Err Asked
 
 -- what the source and the code put out
 abbrev pub put_out : Shown → List ℕ × List ℕ
-put_out (Shows answers sourceOut codeOut registers slots) = (sourceOut, codeOut)
+put_out (Shows answers source_out code_out registers slots) = (source_out, code_out)
 put_out (Refuses e) = ([], [])
 
 -- what the source and the code of a file put out
@@ -74,7 +80,7 @@ outputs d bs xs = put_out (rehearse d bs xs)
 
 -- the answers that were shown
 abbrev pub answers_in : Shown → List (Result Played PlayerFault)
-answers_in (Shows answers sourceOut codeOut registers slots) = answers
+answers_in (Shows answers source_out code_out registers slots) = answers
 answers_in (Refuses e) = []
 
 -- the answers to a list of calls

@@ -1,14 +1,15 @@
 -- The worked cases, from the bytes of the files on.
-use Rattle.std.specs.Prelude.{◌≡◌, ℕ, true, false, List, [], ◌∷◌, ◌++◌, replicate}
+use Rattle.std.specs.Prelude.{◌≡◌, ℕ, true, false, List, [], ◌∷◌, ◌++◌, map, replicate}
 use Rattle.faults.specs.Refusals.{told}
 use Rattle.faults.specs.declared.Layer.TheVariants.{Program as ProgramLayer}
 use Rattle.rows.specs.declared.Op.TheVariants.{End, Const, Copy, Add, Output, Load, Store}
 use Rattle.chips.specs.NestedChip.{nested, nested_file}
 use Rattle.chips.specs.PairedChip.{paired, paired_file}
 use Rattle.compiling.specs.Compile.{compile}
+use Rattle.machine.specs.Machine.{number_of}
 use Rattle.machine.specs.Rehearsal.{Call, Restart, PlaySource, PlayCode}
 use Rattle.worked.specs.Telling.{Coded, Refused, tells, code, in_register, in_slot}
-use Rattle.worked.specs.Showing.{outputs, answered, counts, served, long_input, many_rows}
+use Rattle.worked.specs.Showing.{outcome_of, outputs, answered, counts, served, long_input, many_rows}
 
 -- end
 abbrev pub end_file : List ℕ
@@ -58,8 +59,9 @@ endless_file = 1 ∷ 3 ∷ 128 ∷ 16 ∷ 0 ∷ 0 ∷ 80 ∷ 160 ∷ 0 ∷ 0 ∷
 abbrev pub turns : List Call
 turns = PlaySource 3 ∷ PlayCode 4 ∷ PlayCode 65536 ∷ PlayCode 20 ∷ PlayCode 1 ∷ PlaySource 765 ∷ []
 
--- each case with the rounds, the slots, the place of each variable and the code, or with its refusal; and what both sides put out
+-- the numbers of the outcomes; each case with the rounds, the slots, the place of each variable and the code, or with its refusal; and what both sides put out
 pub record Cases : Type 0 where
+  pub numbers : map number_of (map outcome_of (0 ∷ 1 ∷ 2 ∷ 3 ∷ [])) ≡ 0 ∷ 1 ∷ 2 ∷ 3 ∷ []
   pub ends : tells (compile nested_file end_file) ≡ Coded 1 0 [] (code End 0 0 0 0 0 0 0 ∷ [])
   pub merged_nested : tells (compile nested_file copy_file) ≡ Coded 1 0 (in_register 0 1 false ∷ in_register 0 1 false ∷ [])
       (code Const 0 2 0 0 0 0 7 ∷ code Output 0 0 2 0 0 0 0 ∷ code End 0 0 0 0 0 0 0 ∷ [])

@@ -1,10 +1,11 @@
 ghost use Rattle.std.specs.Prelude.{◌≡◌, []};
 ghost use Rattle.rows.specs.Rows.{row_at};
-ghost use Rattle.machine.specs.Players.{fresh, Steps, Runs};
-ghost use Rattle.players.specs.Playing.{numbers_in, input_of, rows_of, code_of};
+ghost use Rattle.machine.specs.Players.{fresh, Runs};
+ghost use Rattle.players.specs.Playing.{numbers_in, input_of, rows_of, code_of, CodeStep};
 
+use crate::playing::{Steps, play};
 use crate::{CodePlayer, Input, Player, Script};
-use machine::Played;
+use machine::{Outcome, Played};
 use registers::{Bank, RegisterFile};
 
 impl<B: Bank> CodePlayer<B> {
@@ -30,20 +31,6 @@ impl<B: Bank> CodePlayer<B> {
         self.player.restart(input);
     }
 
-    // Plays a row; an ended player rests.
-    fn step(&mut self)
-        ensures rows { rows_of self.new.player ≡ rows_of self.old.player }
-        ensures file { B.RegisterFile.model self.new.bank ≡ B.RegisterFile.model self.old.bank }
-        ensures steps { Steps (B.RegisterFile.model self.old.bank) (row_at (rows_of self.old.player)) (code_of B.Bank.contents self.old) (code_of B.Bank.contents self.new) }
-    {
-        let row = self.player.current();
-        let x = self.bank.read(row.a as usize);
-        let y = self.bank.read(row.b as usize);
-        if let Some(number) = self.player.turn(x, y, &mut self.slots) {
-            self.bank.write(row.d as usize, number);
-        }
-    }
-
     // Plays n rows, unless one ends the player before.
     pub fn play(&mut self, n: u32) -> Played
         ensures rows { rows_of self.new.player ≡ rows_of self.old.player }
@@ -51,16 +38,25 @@ impl<B: Bank> CodePlayer<B> {
         ensures played { Runs (B.RegisterFile.model self.old.bank) (row_at (rows_of self.old.player)) (code_of B.Bank.contents self.old) n result.rows (code_of B.Bank.contents self.new) }
         ensures outcome { result.outcome ≡ (code_of B.Bank.contents self.new).shared.outcome }
     {
-        for rows in 0..n {
-            let outcome = self.player.tape.outcome;
-            if outcome != 0 {
-                return Played { rows, outcome };
-            }
-            self.step();
-        }
-        Played {
-            rows: n,
-            outcome: self.player.tape.outcome,
+        play(self, n)
+    }
+}
+
+impl<B: Bank> Steps for CodePlayer<B> {
+    ghost outcome = { λ p. p.player.tape.outcome };
+
+    ghost Step = { CodeStep B.RegisterFile.model B.Bank.contents };
+
+    fn outcome(&self) -> Outcome {
+        self.player.tape.outcome
+    }
+
+    fn step(&mut self) {
+        let row = self.player.current();
+        let x = self.bank.read(row.a as usize);
+        let y = self.bank.read(row.b as usize);
+        if let Some(number) = self.player.turn(x, y, &mut self.slots) {
+            self.bank.write(row.d as usize, number);
         }
     }
 }

@@ -1,11 +1,11 @@
 ghost use Rattle.std.specs.Prelude.{◌≡◌, []};
 ghost use Rattle.rows.specs.Rows.{row_at};
-ghost use Rattle.machine.specs.Players.{fresh, stepped, run, rows_played};
-ghost use Rattle.players.specs.Playing.{input_of, rows_of, source_of};
+ghost use Rattle.machine.specs.Players.{fresh, run, rows_played};
+ghost use Rattle.players.specs.Playing.{input_of, rows_of, source_of, SourceStep};
 
-use crate::playing::{number_at, put};
+use crate::playing::{Steps, number_at, play, put};
 use crate::{Input, Player, SourcePlayer, SourceScript};
-use machine::Played;
+use machine::{Outcome, Played};
 
 impl SourcePlayer {
     // At the first row, all variables 0.
@@ -27,19 +27,6 @@ impl SourcePlayer {
         self.variables = [0; 64];
     }
 
-    // Plays a row; an ended player rests.
-    fn step(&mut self)
-        ensures rows { rows_of self.new.player ≡ rows_of self.old.player }
-        ensures steps { source_of self.new ≡ stepped (row_at (rows_of self.old.player)) (source_of self.old) }
-    {
-        let row = self.player.current();
-        let x = number_at(&self.variables, row.a as usize);
-        let y = number_at(&self.variables, row.b as usize);
-        if let Some(number) = self.player.turn(x, y, &mut []) {
-            put(&mut self.variables, row.d as usize, number);
-        }
-    }
-
     // Plays n rows, unless one ends the player before.
     pub fn play(&mut self, n: u32) -> Played
         ensures rows { rows_of self.new.player ≡ rows_of self.old.player }
@@ -47,16 +34,25 @@ impl SourcePlayer {
         ensures played { result.rows ≡ rows_played (row_at (rows_of self.old.player)) (source_of self.old) n }
         ensures outcome { result.outcome ≡ (source_of self.new).shared.outcome }
     {
-        for rows in 0..n {
-            let outcome = self.player.tape.outcome;
-            if outcome != 0 {
-                return Played { rows, outcome };
-            }
-            self.step();
-        }
-        Played {
-            rows: n,
-            outcome: self.player.tape.outcome,
+        play(self, n)
+    }
+}
+
+impl Steps for SourcePlayer {
+    ghost outcome = { λ p. p.player.tape.outcome };
+
+    ghost Step = { SourceStep };
+
+    fn outcome(&self) -> Outcome {
+        self.player.tape.outcome
+    }
+
+    fn step(&mut self) {
+        let row = self.player.current();
+        let x = number_at(&self.variables, row.a as usize);
+        let y = number_at(&self.variables, row.b as usize);
+        if let Some(number) = self.player.turn(x, y, &mut []) {
+            put(&mut self.variables, row.d as usize, number);
         }
     }
 }

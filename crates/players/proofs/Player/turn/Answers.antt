@@ -7,8 +7,8 @@ use Rattle.players.specs.Playing.{numbers_in, shared_of, rows_of, leads}
 use Rattle.players.proofs.Effects.{leads_inside}
 use Rattle.players.proofs.Player.turn.Goals as goal
 
-pub invariant_of-self : goal.invariant_of-self
-invariant_of-self c =
+pub invariant_of-self-2 : goal.invariant_of-self-2
+invariant_of-self-2 c =
     let p = c.args.self.now in
     let x = c.args.x in
     let y = c.args.y in
@@ -18,6 +18,6 @@ invariant_of-self c =
     let stands : p.row < length (rows_of p) = omega arith in
     let inside = leads_inside r x y h p.row (length (rows_of p)) stands (p.inside p.row stands) in
     let e : c.leads-self.result ≡ leads r (effect r x y h) p.row =
-    c.leads-self.ensures ∙ ap (λ (z : Effect). leads c.current-row.result z p.row) c.effect-turn.ensures ∙ ap (λ (z : Row). leads z (effect z x y h) p.row) c.current-row.ensures in
+    c.leads-self.ensures ∙ ap (λ (z : Effect). leads c.current-row.result z p.row) c.in_ok-turn.ensures ∙ ap (λ (z : Row). leads z (effect z x y h) p.row) c.current-row.ensures in
     let goes : c.leads-self.result < p.count = omega arith in
     record { few = p.few; whole = p.whole; inside = p.inside; classed = p.classed; stands = goes }

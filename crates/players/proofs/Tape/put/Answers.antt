@@ -9,4 +9,4 @@ returns-then-self-lt-MOST c slots =
     let e : length (take t.put t.output) ≡ t.put = length-take-le t.put t.output (omega arith) in
     let lt : t.put < length t.output = omega arith in
     let b : ltb (length (take t.put t.output)) 256 ≡ true = lt-ltb _ 256 (omega arith) in
-    rw (b, take_more_set t.output t.put c.args.x lt) (record { outcome = c.giving.ensures.0; value = c.giving.ensures.1; shared = refl })
+    rw (b, take_more_set t.output t.put c.args.x lt) (record { answer = refl; shared = refl })

@@ -1,7 +1,7 @@
 use Rattle.std.proofs.Common.{◌≡◌, length, ap, ◌∙◌, rules}
 use Rattle.players.specs.Playing.{numbers_in}
 use Rattle.players.proofs.Plays.{source_row, source_wrote, source_kept}
-use Rattle.players.proofs.SourcePlayer.step.Goals as goal
+use Rattle.players.proofs.playing.source_player.SourcePlayerSteps.step.Goals as goal
 
 pub returns-in-Some : goal.returns-in-Some
 returns-in-Some c =
