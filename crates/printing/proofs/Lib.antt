@@ -1,5 +1,4 @@
 mod Lists
 mod Numbers
-mod Rows
 mod Parts
 mod Worked

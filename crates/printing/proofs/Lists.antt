@@ -1,25 +1,22 @@
 -- Texts added one behind the other.
 use Rattle.std.proofs.Common.{◌≡◌, ℕ, ◌+◌, ◌<◌, List, [], ◌∷◌, ◌++◌, length, get_or, take, drop, sym, ap, ◌∙◌, append_assoc, arith}
 use Rattle.std.proofs.lemmas.List.{take_more, flat_map_more}
-use Rattle.printing.specs.Texts.{behind, between, listed}
-
--- a text behind a mark
-pub mark_text : (mark : ℕ) (a x : List ℕ) {y z : List ℕ} → y ≡ x ++ (mark ∷ []) → z ≡ y ++ a → z ≡ x ++ (mark ∷ a)
-mark_text mark a x e f = f ∙ (ap (λ (l : List ℕ). l ++ a) e ∙ append_assoc x (mark ∷ []) a)
+use Rattle.printing.specs.Texts.{behind, joined}
 
 -- one thing more behind its mark
-pub behind_more : {X : Type 0} (mark : ℕ) (text : X → List ℕ) (bs : List ℕ) (xs : List X) (i : ℕ) (d : X) → i < length xs → (bs ++ behind mark text (take i xs)) ++ (mark ∷ text (get_or xs i d)) ≡ bs ++ behind mark text (take (i + 1) xs)
-behind_more {X} mark text bs xs i d l =
-    flat_map_more (λ (x : X). mark ∷ text x) bs (take i xs) (get_or xs i d)
-    ∙ ap (λ (ys : List X). bs ++ behind mark text ys) (sym (take_more xs i d l))
+pub behind_more : {X : Type 0} (mark : ℕ) (text : X → List ℕ) (bs : List ℕ) (xs : List X) (i : ℕ) (x : X) {w y z : List ℕ} → i < length xs → x ≡ get_or xs i x → w ≡ bs ++ behind mark text (take i xs) → y ≡ w ++ (mark ∷ []) → z ≡ y ++ text x → z ≡ bs ++ behind mark text (take (i + 1) xs)
+behind_more {X} mark text bs xs i x l here was e f =
+    f
+    ∙ ap (λ (ds : List ℕ). ds ++ text x) (e ∙ ap (λ (ds : List ℕ). ds ++ (mark ∷ [])) was)
+    ∙ append_assoc (bs ++ behind mark text (take i xs)) (mark ∷ []) (text x)
+    ∙ flat_map_more (λ (w : X). mark ∷ text w) bs (take i xs) x
+    ∙ ap (λ (ws : List X). bs ++ behind mark text ws) (ap (λ (w : X). take i xs ++ (w ∷ [])) here ∙ sym (take_more xs i x l))
 
 -- the first thing, and the others behind it
-pub between_first : {X : Type 0} (mark : ℕ) (text : X → List ℕ) (xs : List X) (d : X) (x : List ℕ) {y z : List ℕ} → 0 < length xs → y ≡ x ++ text (get_or xs 0 d) → z ≡ y ++ behind mark text (drop 1 xs) → z ≡ x ++ between mark text xs
-between_first mark text [] d x l e f = absurd (omega arith)
-between_first mark text (y ∷ ys) d x l e f =
-    f ∙ (ap (λ (l : List ℕ). l ++ behind mark text ys) e ∙ append_assoc x (text y) (behind mark text ys))
-
--- a list of some things has no dash
-pub listed_first : {X : Type 0} (text : X → List ℕ) (xs : List X) (d : X) (x : List ℕ) {y z : List ℕ} → 0 < length xs → y ≡ x ++ text (get_or xs 0 d) → z ≡ y ++ behind 44 text (drop 1 xs) → z ≡ x ++ listed text xs
-listed_first text [] d x l e f = absurd (omega arith)
-listed_first text (y ∷ ys) d x l e f = between_first 44 text (y ∷ ys) d x l e f
+pub joined_first : {X : Type 0} (mark : ℕ) (none : List ℕ) (text : X → List ℕ) (bs : List ℕ) (xs : List X) (x : X) {y z : List ℕ} {rest : List X} → 0 < length xs → x ≡ get_or xs 0 x → rest ≡ drop 1 xs → y ≡ bs ++ text x → z ≡ y ++ behind mark text rest → z ≡ bs ++ joined mark none text xs
+joined_first mark none text bs [] x l here left e f = absurd (omega arith)
+joined_first {X} mark none text bs (w ∷ ws) x {y = y} l here left e f =
+    f
+    ∙ ap (λ (vs : List X). y ++ behind mark text vs) left
+    ∙ ap (λ (ds : List ℕ). ds ++ behind mark text ws) (e ∙ ap (λ (v : X). bs ++ text v) here)
+    ∙ append_assoc bs (text w) (behind mark text ws)

@@ -16,11 +16,5 @@ digit_more n x l u e f =
     ∙ (ap (λ (ds : List ℕ). ds ++ ((48 + n % 10) ∷ [])) e
     ∙ (append_assoc x (decimal (n / 10)) ((48 + n % 10) ∷ []) ∙ ap (λ (ds : List ℕ). x ++ ds) (sym (decimal_step n l u))))
 
-pub digits_byte : (n : ℕ) → n < 2 ^ 8 → length (decimal n) ≤ 3
-digits_byte n l = length-decimal-le 3 n (omega arith) (omega arith) (omega arith)
-
-pub digits_half : (n : ℕ) → n < 2 ^ 16 → length (decimal n) ≤ 5
-digits_half n l = length-decimal-le 5 n (omega arith) (omega arith) (omega arith)
-
 pub digits_word : (n : ℕ) → n < 2 ^ 32 → length (decimal n) ≤ 10
 digits_word n l = length-decimal-le 10 n (omega arith) (omega arith) (omega arith)

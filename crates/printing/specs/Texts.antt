@@ -1,9 +1,10 @@
 -- What is printed of a compiled program.
-use Rattle.std.specs.Prelude.{ℕ, Bool, cond, List, [], ◌∷◌, ◌++◌, codes, decimal}
+use Rattle.std.specs.Prelude.{ℕ, Bool, cond, Some, None, Option, List, [], ◌∷◌, ◌++◌, codes, decimal}
 use Rattle.std.specs.List.{flat_map}
+use Rattle.std.specs.Option.{option_or}
 use Rattle.rows.specs.declared.Row.{Row}
 use Rattle.rows.specs.declared.Shape.{Shape}
-use Rattle.rows.specs.Rows.{shape, opcode}
+use Rattle.rows.specs.Rows.{shape, opcode, used}
 use Rattle.compiling.specs.declared.Home.{Home}
 use Rattle.compiling.specs.declared.Home.TheVariants.{Open, Register, Slot}
 use Rattle.compiling.specs.declared.Place.{Place}
@@ -14,15 +15,14 @@ use Rattle.compiling.specs.declared.Place.{Place}
 abbrev pub behind : {X : Type 0} → ℕ → (X → List ℕ) → List X → List ℕ
 behind mark text xs = flat_map (λ x. mark ∷ text x) xs
 
--- things with a mark between them
-abbrev pub between : {X : Type 0} → ℕ → (X → List ℕ) → List X → List ℕ
-between mark text [] = []
-between mark text (x ∷ xs) = text x ++ behind mark text xs
+-- things with a mark between them, or what an empty list is told as
+abbrev pub joined : {X : Type 0} → ℕ → List ℕ → (X → List ℕ) → List X → List ℕ
+joined mark none text [] = none
+joined mark none text (x ∷ xs) = text x ++ behind mark text xs
 
 -- things with commas between them, - for none
 abbrev pub listed : {X : Type 0} → (X → List ℕ) → List X → List ℕ
-listed text [] = codes "-"
-listed text (x ∷ xs) = between 44 text (x ∷ xs)
+listed text xs = joined 44 (codes "-") text xs
 
 -- a list of numbers
 abbrev pub numbers_text : List ℕ → List ℕ
@@ -52,34 +52,38 @@ places_text places = listed place_text places
 -- ---- the code
 
 -- an item of a row, - if the opcode does not have it
-abbrev pub item : Bool → ℕ → List ℕ
-item used n = cond used (decimal n) (codes "-")
+abbrev pub item : Option ℕ → List ℕ
+item None = codes "-"
+item (Some n) = decimal n
 
--- the last item of a row: the constant, the target or the slot
-abbrev pub last_item : Shape → Row → List ℕ
-last_item s r =
-    cond s.constant (decimal r.constant) (cond s.target (decimal r.target) (item s.slot r.slot))
+-- the last item of a row of this shape: the constant, the target or the slot
+abbrev pub last_item : Shape → Row → Option ℕ
+last_item s r = option_or (option_or (used s.constant r.constant) (used s.target r.target)) (used s.slot r.slot)
 
 -- the eight items of a row of this shape
-abbrev pub items_of : Shape → Row → List (List ℕ)
-items_of s r =
-    decimal (opcode r.op)
-    ∷ decimal r.weight
-    ∷ item s.d r.dclass
-    ∷ item s.a r.aclass
-    ∷ item s.d r.d
-    ∷ item s.a r.a
-    ∷ item s.b r.b
+abbrev pub shaped_items : Shape → Row → List (Option ℕ)
+shaped_items s r =
+    Some (opcode r.op)
+    ∷ Some r.weight
+    ∷ used s.d r.dclass
+    ∷ used s.a r.aclass
+    ∷ used s.d r.d
+    ∷ used s.a r.a
+    ∷ used s.b r.b
     ∷ last_item s r
     ∷ []
 
+-- the eight items of a row
+abbrev pub items_of : Row → List (Option ℕ)
+items_of r = shaped_items (shape r.op) r
+
 -- a row
 unfoldable pub row_text : Row → List ℕ
-row_text r = between 44 (λ t. t) (items_of (shape r.op) r)
+row_text r = joined 44 [] item (items_of r)
 
 -- all rows
 abbrev pub rows_text : List Row → List ℕ
-rows_text rows = between 59 row_text rows
+rows_text rows = joined 59 [] row_text rows
 
 -- ---- the program
 

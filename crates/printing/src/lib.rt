@@ -2,12 +2,43 @@
 
 pub mod calls;
 
-ghost use Rattle.std.specs.Prelude.{◌≡◌, ◌+◌, ◌≤◌, [], ◌∷◌, ◌++◌, length, vec_len, vec_capacity, decimal, OnOk};
-ghost use Rattle.printing.specs.Texts.{behind, numbers_text, home_letter as home_letter_of, mark_letter as mark_letter_of, place_text, places_text, item, last_item, row_text, rows_text, compiled_text};
+ghost use Rattle.std.specs.Prelude.{◌≡◌, ℕ, List, ◌+◌, ◌≤◌, ◌++◌, length, vec_len, vec_capacity, decimal, OnOk};
+ghost use Rattle.printing.specs.Texts.{joined, numbers_text, home_letter as home_letter_of, mark_letter as mark_letter_of, place_text, places_text, item, items_of, row_text, rows_text, compiled_text};
 
 use compiling::{Home, Place};
-use rows::{Row, Shape};
+use rows::Row;
 use std::alloc::AllocError;
+
+// What is told as text.
+pub trait Told: Copy {
+    ghost text: { Self → List ℕ };
+
+    // Adds its text.
+    fn tell(self, out: &mut Vec<u8>) -> Result<(), AllocError>
+        ensures { OnOk result (out.new.items ≡ out.old.items ++ text self) };
+}
+
+// Adds the texts of a list with a mark between them, or what an empty list is told as.
+pub fn write_list<T: Told>(
+    xs: &[T],
+    mark: u8,
+    none: &[u8],
+    out: &mut Vec<u8>,
+) -> Result<(), AllocError>
+    ensures { OnOk result (out.new.items ≡ out.old.items ++ joined mark none.now T.text xs.now) }
+{
+    match xs {
+        [] => out.extend_from_slice(none),
+        [first, rest @ ..] => {
+            first.tell(out)?;
+            for x in rest {
+                out.push(mark)?;
+                x.tell(out)?;
+            }
+            Ok(())
+        }
+    }
+}
 
 // Adds a number; there is room for its digits.
 fn put_number(n: u32, out: &mut Vec<u8>)
@@ -24,38 +55,29 @@ fn put_number(n: u32, out: &mut Vec<u8>)
     out.push_reserved(b'0' + (n % 10) as u8);
 }
 
+// A number in decimal digits.
+impl Told for u32 {
+    ghost text = { decimal };
+
+    fn tell(self, out: &mut Vec<u8>) -> Result<(), AllocError> {
+        out.reserve(10)?;
+        put_number(self, out);
+        Ok(())
+    }
+}
+
 // Adds a number in decimal digits.
 pub fn write_number(n: u32, out: &mut Vec<u8>) -> Result<(), AllocError>
     ensures { OnOk result (out.new.items ≡ out.old.items ++ decimal n) }
 {
-    out.reserve(10)?;
-    put_number(n, out);
-    Ok(())
-}
-
-// Adds further numbers, each behind a comma.
-fn write_more_numbers(numbers: &[u32], out: &mut Vec<u8>) -> Result<(), AllocError>
-    ensures { OnOk result (out.new.items ≡ out.old.items ++ behind 44 decimal numbers.now) }
-{
-    for n in numbers {
-        out.reserve(11)?;
-        out.push_reserved(b',');
-        put_number(*n, out);
-    }
-    Ok(())
+    n.tell(out)
 }
 
 // Adds a list of numbers.
 pub fn write_numbers(numbers: &[u32], out: &mut Vec<u8>) -> Result<(), AllocError>
     ensures { OnOk result (out.new.items ≡ out.old.items ++ numbers_text numbers.now) }
 {
-    match numbers {
-        [] => out.extend_from_slice(b"-"),
-        [first, rest @ ..] => {
-            write_number(*first, out)?;
-            write_more_numbers(rest, out)
-        }
-    }
+    write_list(numbers, b',', b"-", out)
 }
 
 fn home_letter(home: Home) -> u8
@@ -74,129 +96,84 @@ fn mark_letter(hoped: bool) -> u8
     if hoped { b'h' } else { b't' }
 }
 
-// Adds a place; there is room for its nine bytes.
-fn put_place(place: Place, out: &mut Vec<u8>)
-    requires { vec_len out.old + 9 ≤ vec_capacity out.old }
-    ensures { out.new.items ≡ out.old.items ++ place_text place }
-{
-    out.push_reserved(home_letter(place.home));
-    put_number(place.number as u32, out);
-    out.push_reserved(b'@');
-    put_number(place.round as u32, out);
-    out.push_reserved(mark_letter(place.hoped));
+impl Told for Place {
+    ghost text = { place_text };
+
+    fn tell(self, out: &mut Vec<u8>) -> Result<(), AllocError> {
+        out.push(home_letter(self.home))?;
+        write_number(self.number as u32, out)?;
+        out.push(b'@')?;
+        write_number(self.round as u32, out)?;
+        out.push(mark_letter(self.hoped))?;
+        Ok(())
+    }
 }
 
 // Adds the place of a variable.
 pub fn write_place(place: Place, out: &mut Vec<u8>) -> Result<(), AllocError>
     ensures { OnOk result (out.new.items ≡ out.old.items ++ place_text place) }
 {
-    out.reserve(9)?;
-    put_place(place, out);
-    Ok(())
-}
-
-// Adds further places, each behind a comma.
-fn write_more_places(places: &[Place], out: &mut Vec<u8>) -> Result<(), AllocError>
-    ensures { OnOk result (out.new.items ≡ out.old.items ++ behind 44 place_text places.now) }
-{
-    for place in places {
-        out.reserve(10)?;
-        out.push_reserved(b',');
-        put_place(*place, out);
-    }
-    Ok(())
+    place.tell(out)
 }
 
 // Adds the places of all variables.
 pub fn write_places(places: &[Place], out: &mut Vec<u8>) -> Result<(), AllocError>
     ensures { OnOk result (out.new.items ≡ out.old.items ++ places_text places.now) }
 {
-    match places {
-        [] => out.extend_from_slice(b"-"),
-        [first, rest @ ..] => {
-            write_place(*first, out)?;
-            write_more_places(rest, out)
+    write_list(places, b',', b"-", out)
+}
+
+// An item of a row, - if the opcode does not have it.
+impl Told for Option<u16> {
+    ghost text = { item };
+
+    fn tell(self, out: &mut Vec<u8>) -> Result<(), AllocError> {
+        match self {
+            Some(n) => write_number(n as u32, out),
+            None => out.extend_from_slice(b"-"),
         }
     }
 }
 
-// Adds an item of a row behind a comma; there is room for these six bytes.
-fn put_item(used: bool, n: u16, out: &mut Vec<u8>)
-    requires { vec_len out.old + 6 ≤ vec_capacity out.old }
-    ensures items { out.new.items ≡ out.old.items ++ 44 ∷ item used n }
-    ensures len { vec_len out.new ≤ vec_len out.old + 6 }
-    ensures capacity { vec_capacity out.new ≡ vec_capacity out.old }
-{
-    out.push_reserved(b',');
-    if used {
-        put_number(n as u32, out);
-        return;
-    }
-    out.push_reserved(b'-');
-}
-
-// Adds the last item of a row of this shape behind a comma; there is room for these six bytes.
-fn put_last(shape: Shape, row: Row, out: &mut Vec<u8>)
-    requires { vec_len out.old + 6 ≤ vec_capacity out.old }
-    ensures { out.new.items ≡ out.old.items ++ 44 ∷ last_item shape row }
-{
-    if shape.constant {
-        return put_item(true, row.constant, out);
-    }
-    if shape.target {
-        return put_item(true, row.target, out);
-    }
-    put_item(shape.slot, row.slot as u16, out);
-}
-
-// Adds a row; there is room for its eight items.
-fn put_row(row: Row, out: &mut Vec<u8>)
-    requires { vec_len out.old + 48 ≤ vec_capacity out.old }
-    ensures { out.new.items ≡ out.old.items ++ row_text row }
+// The items of a row; the last is its constant, its target or its slot.
+fn items(row: Row) -> [Option<u16>; 8]
+    ensures { result ≡ items_of row }
 {
     let shape = row.op.shape();
-    put_number(row.op.opcode() as u32, out);
-    put_item(true, row.weight as u16, out);
-    put_item(shape.d, row.dclass as u16, out);
-    put_item(shape.a, row.aclass as u16, out);
-    put_item(shape.d, row.d, out);
-    put_item(shape.a, row.a, out);
-    put_item(shape.b, row.b, out);
-    put_last(shape, row, out);
+    [
+        Some(row.op.opcode() as u16),
+        Some(row.weight as u16),
+        shape.d.then_some(row.dclass as u16),
+        shape.a.then_some(row.aclass as u16),
+        row.written(),
+        row.first_read(),
+        row.second_read(),
+        row.constant_given()
+            .or(row.target_row())
+            .or(shape.slot.then_some(row.slot as u16)),
+    ]
+}
+
+impl Told for Row {
+    ghost text = { row_text };
+
+    fn tell(self, out: &mut Vec<u8>) -> Result<(), AllocError> {
+        write_list(&items(self), b',', b"", out)
+    }
 }
 
 // Adds a row of code.
 pub fn write_row(row: Row, out: &mut Vec<u8>) -> Result<(), AllocError>
     ensures { OnOk result (out.new.items ≡ out.old.items ++ row_text row) }
 {
-    out.reserve(48)?;
-    put_row(row, out);
-    Ok(())
-}
-
-// Adds further rows, each behind a semicolon.
-fn write_more_rows(rows: &[Row], out: &mut Vec<u8>) -> Result<(), AllocError>
-    ensures { OnOk result (out.new.items ≡ out.old.items ++ behind 59 row_text rows.now) }
-{
-    for row in rows {
-        out.reserve(49)?;
-        out.push_reserved(b';');
-        put_row(*row, out);
-    }
-    Ok(())
+    row.tell(out)
 }
 
 // Adds all rows of code.
 pub fn write_rows(rows: &[Row], out: &mut Vec<u8>) -> Result<(), AllocError>
     ensures { OnOk result (out.new.items ≡ out.old.items ++ rows_text rows.now) }
 {
-    match rows {
-        [] => Ok(()),
-        [first, rest @ ..] => {
-            write_row(*first, out)?;
-            write_more_rows(rest, out)
-        }
-    }
+    write_list(rows, b';', b"", out)
 }
 
 // Adds the words on a compiled program: how many rounds and slots, the places of the variables, the code.
