@@ -1,20 +1,22 @@
-use Rattle.std.proofs.Common.{ℕ, ◌<◌, cond, eqb, List, length, get_or, Some, None, sym, ap, ◌∙◌, arith}
+use Rattle.std.proofs.Common.{◌≡◌, ◌<◌, length, get_or, eqb, false, ◌∙◌, rules, arith}
+use Rattle.std.proofs.lemmas.Bool.{ltb-false}
 use Rattle.std.proofs.lemmas.Result.{IfOk-weaker}
-use Rattle.std.proofs.lemmas.Bool.{ltb-true, ltb-false}
-use Rattle.hexwords.proofs.Spelling.{file_none, file_one, file_more}
+use Rattle.hexwords.proofs.Spelling.{file_empty, file_dash, file_spelled}
+use Rattle.hexwords.proofs.read_file.Goals.{in_default-via-then-word-lt2+in_default-1, in_default-via-else-word-lt2}
 use Rattle.hexwords.proofs.read_file.Goals as goal
 
 pub returns-in-empty : goal.returns-in-empty
-returns-in-empty c = file_none c.args.word.now (omega (arith, ltb-true))
+returns-in-empty c = file_empty c.args.word.now (omega arith)
 
-pub returns-in-len1 : goal.returns-in-len1
-returns-in-len1 c =
-    let w = c.args.word.now in
-    file_one w (omega (arith, ltb-true, ltb-false))
-    ∙ ap (λ (xs : List ℕ). cond (eqb (get_or w 0 0) 45) (Some xs) None) (sym c.clear.ensures.items)
+pub returns-in-45 : goal.returns-in-45
+returns-in-45 c = file_dash c.args.word.now (omega arith) (search rules)
 
 pub returns-in_default : goal.returns-in_default
 returns-in_default c =
-    let w = c.args.word.now in
-    let long : 1 < length w = omega (arith, ltb-false) in
-    IfOk-weaker c.spell.result _ _ (λ all e. file_more w long ∙ e) c.spell.ensures
+    let word = c.args.word.now in
+    let some : 0 < length word = search rules in
+    let other : length word ≡ 1 → eqb (get_or word 0 0) 45 ≡ false = elim c.in_default.branch [
+      | in_default-via-then-word-lt2+in_default-1 w ↦ λ one. search rules
+      | in_default-via-else-word-lt2 w ↦ λ one. absurd (omega (arith, ltb-false))
+    ] in
+    IfOk-weaker c.spell.result _ _ (λ bytes e. e ∙ file_spelled word some other) c.spell.ensures
