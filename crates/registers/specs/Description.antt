@@ -1,5 +1,5 @@
 -- A chip by its tables, and the tests that make a lawful file of it.
-use Rattle.std.specs.Prelude.{◌≡◌, ℕ, ◌+◌, Bool, true, cond, not, ◌&&◌, ◌||◌, ltb, leb, nat_eq, nat_le, nat_lt}
+use Rattle.std.specs.Prelude.{◌≡◌, ℕ, ◌+◌, Bool, true, cond, not, ◌&&◌, ◌||◌, nat_eq, nat_le, nat_lt}
 use Rattle.counting.specs.Counting.{count as count_of, most, all}
 use Rattle.registers.specs.Model.{Model, class_bits, clashes}
 
@@ -33,13 +33,13 @@ meets d r s = nat_lt (d.low r) (d.low s + d.width s) && nat_lt (d.low s) (d.low 
 
 -- one test over all registers, or classes, for each law
 pub record Tested (d : Description) : Type 0 where
-  pub some : leb 1 d.count ≡ true
-  pub few : leb d.count 64 ≡ true
+  pub some : nat_le 1 d.count ≡ true
+  pub few : nat_le d.count 64 ≡ true
   pub self : all (λ r. d.overlaps r r) d.count ≡ true
   pub both_ways : all (λ r. all (λ s. not (d.overlaps r s) || d.overlaps s r) d.count) d.count ≡ true
-  pub narrow : all (λ r. leb (d.width r) 32) d.count ≡ true
+  pub narrow : all (λ r. nat_le (d.width r) 32) d.count ≡ true
   pub wide : all (λ r. all (λ c. not (d.belongs r c) || nat_le (class_bits c) (d.width r)) 3) d.count ≡ true
   pub counted : all (λ c. nat_eq (d.p c) (count_of (λ r. (fenced d).belongs r c) d.count)) 3 ≡ true
   pub reckoned : all (λ b. all (λ c. nat_eq (d.q b c) (most (λ r. cond ((fenced d).belongs r c) (clashes (fenced d) b r) 0) d.count)) 3) 3 ≡ true
-  pub room : all (λ b. all (λ c. ltb (d.q b c) (d.p b)) 3) 3 ≡ true
+  pub room : all (λ b. all (λ c. nat_lt (d.q b c) (d.p b)) 3) 3 ≡ true
   pub shared : all (λ r. all (λ s. cond (meets d r s) (d.overlaps r s) (not (d.overlaps r s))) d.count) d.count ≡ true
