@@ -164,8 +164,8 @@ pub fn compile_for(
     ensures refused { (e : AnyFault) → result ≡ Err e → program.new.record.now ≡ program.old.record.now }
 {
     match chip {
-        Chip::Nested => memory.compile(program, &Nested { bits: 0 }, file),
-        Chip::Paired => memory.compile(program, &Paired { bits: 0 }, file),
+        Chip::Nested => memory.compile(program, &Nested::with_bits(0), file),
+        Chip::Paired => memory.compile(program, &Paired::with_bits(0), file),
     }
 }
 

@@ -1,3 +1,5 @@
 pub mod NestedChip
 pub mod PairedChip
 pub mod ChipLaws
+pub mod Wiring
+pub mod ChipParts

@@ -1,5 +1,5 @@
 -- The nested chip: four words, the low half of each, and the two bytes of that half.
-use Rattle.std.specs.Prelude.{◌≡◌, ℕ, ◌+◌, ◌*◌, ◌/◌, ◌%◌, ◌^◌, ◌<◌, ◌&&◌, ◌||◌, [], ◌∷◌, ◌==◌, nat_lt, slice_index, slice_index_or}
+use Rattle.std.specs.Prelude.{◌≡◌, ℕ, ◌+◌, ◌*◌, ◌/◌, ◌%◌, ◌^◌, ◌<◌, ◌&&◌, ◌||◌, [], ◌∷◌, ◌==◌, nat_lt, slice_index}
 use Rattle.registers.specs.Model.{Model}
 use Rattle.registers.specs.Runs.{held}
 use Rattle.registers.specs.Description.{Description, fenced, lowest}
@@ -12,8 +12,8 @@ nested = record {
   overlaps = λ r s. (r % 4 == s % 4) && (r / 4 == s / 4 || (nat_lt (r / 4) 2 || nat_lt (s / 4) 2));
   width = λ r. slice_index (32 ∷ 16 ∷ 8 ∷ 8 ∷ []) (r / 4);
   low = λ r. r % 4 * 32 + slice_index (0 ∷ 0 ∷ 0 ∷ 8 ∷ []) (r / 4);
-  p = λ c. slice_index (8 ∷ 4 ∷ 4 ∷ []) c;
-  q = λ b c. slice_index (slice_index_or ((1 ∷ 2 ∷ 2 ∷ []) ∷ (1 ∷ 1 ∷ 1 ∷ []) ∷ (1 ∷ 1 ∷ 1 ∷ []) ∷ []) b []) c;
+  p = 8 ∷ 4 ∷ 4 ∷ [];
+  q = (1 ∷ 2 ∷ 2 ∷ []) ∷ (1 ∷ 1 ∷ 1 ∷ []) ∷ (1 ∷ 1 ∷ 1 ∷ []) ∷ [];
 }
 
 abbrev pub nested_file : Model

@@ -1,5 +1,5 @@
 -- The paired chip: six singles of 16 bits, and three words of two singles each.
-use Rattle.std.specs.Prelude.{◌≡◌, ℕ, ◌+◌, ◌-◌, ◌*◌, ◌/◌, ◌%◌, ◌^◌, ◌<◌, cond, not, ◌&&◌, ◌||◌, [], ◌∷◌, ◌==◌, nat_lt, slice_index, slice_index_or}
+use Rattle.std.specs.Prelude.{◌≡◌, ℕ, ◌+◌, ◌-◌, ◌*◌, ◌/◌, ◌%◌, ◌^◌, ◌<◌, cond, not, ◌&&◌, ◌||◌, [], ◌∷◌, ◌==◌, nat_lt}
 use Rattle.registers.specs.Model.{Model}
 use Rattle.registers.specs.Runs.{held}
 use Rattle.registers.specs.Description.{Description, fenced, lowest}
@@ -16,8 +16,8 @@ paired = record {
   overlaps = λ r s. (pair r == pair s) && (r == s || (not (nat_lt r 6) || not (nat_lt s 6)));
   width = λ r. cond (nat_lt r 6) 16 32;
   low = λ r. pair r * 32 + cond (nat_lt r 6) ((1 - r % 2) * 16) 0;
-  p = λ c. slice_index (6 ∷ 6 ∷ 3 ∷ []) c;
-  q = λ b c. slice_index (slice_index_or ((1 ∷ 1 ∷ 2 ∷ []) ∷ (1 ∷ 1 ∷ 2 ∷ []) ∷ (1 ∷ 1 ∷ 1 ∷ []) ∷ []) b []) c;
+  p = 6 ∷ 6 ∷ 3 ∷ [];
+  q = (1 ∷ 1 ∷ 2 ∷ []) ∷ (1 ∷ 1 ∷ 2 ∷ []) ∷ (1 ∷ 1 ∷ 1 ∷ []) ∷ [];
 }
 
 abbrev pub paired_file : Model

@@ -1,6 +1,6 @@
 #![tactic(auto)]
 
-ghost use Rattle.std.specs.Prelude.{◌≡◌, T, is_some, IfOk, nat_lt};
+ghost use Rattle.std.specs.Prelude.{◌≡◌, is_some, IfOk, nat_lt};
 
 use chips::nested::Nested;
 use chips::paired::Paired;
@@ -8,7 +8,7 @@ use registers::RegisterFile;
 use std::alloc::{AllocError, Global};
 use std::fmt;
 
-const CLASS_NAMES: [&str; 3] = ["byte", "half", "word"];
+const CLASSES: [(u8, &str); 3] = [(0, "byte"), (1, "half"), (2, "word")];
 
 /// A register file as a table to read: its registers, then p and q.
 #[derive(Drop)]
@@ -21,18 +21,12 @@ fn write_register<F: RegisterFile, W: fmt::Write>(
 ) -> fmt::Result {
     let width = file.width(r);
     write!(f, "{r:>8} {width:>5}  ")?;
-    for class in 0..3u8 {
-        let name = if file.belongs(r, class) {
-            CLASS_NAMES[class as usize]
-        } else {
-            ""
-        };
+    for (class, name) in CLASSES {
+        let name = if file.belongs(r, class) { name } else { "" };
         write!(f, "{name:<5}")?;
     }
-    for s in 0..file.registers() {
-        if file.overlaps(r, s) {
-            write!(f, " {s}")?;
-        }
+    for s in (0..F::R).filter(|&s| file.overlaps(r, s)) {
+        write!(f, " {s}")?;
     }
     writeln!(f)
 }
@@ -40,14 +34,12 @@ fn write_register<F: RegisterFile, W: fmt::Write>(
 fn write_class<F: RegisterFile, W: fmt::Write>(
     file: &F,
     b: u8,
+    name: &str,
     f: &mut fmt::Formatter<W>,
-) -> fmt::Result
-    requires { T (nat_lt b 3) }
-{
-    let name = CLASS_NAMES[b as usize];
+) -> fmt::Result {
     let p = file.p(b);
     write!(f, "{name:<8} {p:>5}")?;
-    for c in 0..3u8 {
+    for (c, _) in CLASSES {
         let q = file.q(b, c);
         write!(f, "  {q:>14}")?;
     }
@@ -57,7 +49,7 @@ fn write_class<F: RegisterFile, W: fmt::Write>(
 impl<F: RegisterFile> fmt::Display for Listing<F> {
     fn fmt<W: fmt::Write>(&self, f: &mut fmt::Formatter<W>) -> fmt::Result {
         writeln!(f, "register  bits  class           overlaps")?;
-        for r in 0..self.0.registers() {
+        for r in 0..F::R {
             write_register(&self.0, r, f)?;
         }
         writeln!(f)?;
@@ -65,8 +57,8 @@ impl<F: RegisterFile> fmt::Display for Listing<F> {
             f,
             "class        p  q(class, byte)  q(class, half)  q(class, word)"
         )?;
-        for b in 0..3u8 {
-            write_class(&self.0, b, f)?;
+        for (b, name) in CLASSES {
+            write_class(&self.0, b, name, f)?;
         }
         Ok(())
     }
@@ -77,8 +69,8 @@ pub fn chip_listing(heap: Global, chip: u8) -> Result<Option<String>, AllocError
     ensures { IfOk result (λ text. is_some text ≡ nat_lt chip 2) }
 {
     let text = match chip {
-        0 => Listing(Nested { bits: 0 }).to_string(heap)?,
-        1 => Listing(Paired { bits: 0 }).to_string(heap)?,
+        0 => Listing(Nested::with_bits(0)).to_string(heap)?,
+        1 => Listing(Paired::with_bits(0)).to_string(heap)?,
         _ => return Ok(None),
     };
     Ok(Some(text))

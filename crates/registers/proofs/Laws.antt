@@ -1,6 +1,7 @@
 -- A description that passes its tests makes a lawful file, and runs that its banks may use.
-use Rattle.std.proofs.Common.{◌≡◌, ℕ, ◌+◌, ◌<◌, ◌≤◌, Bool, true, false, cond, not, ◌&&◌, ◌||◌, eqb, ltb, leb, ◌⊎◌, sym, refl, ◌∙◌, inl, inr, zero-le, arith}
-use Rattle.std.proofs.lemmas.Bool.{and_parts, and_from, and_left, and_right, and_cases, ltb-true, ltb-false, leb-true, eqb-true, lt-ltb, le-ltb, cases_lt, cond-true, cond-false, cond_both, both_ways}
+use Rattle.std.proofs.Common.{◌≡◌, ℕ, ◌+◌, ◌<◌, ◌≤◌, Bool, true, false, cond, not, ◌&&◌, ◌||◌, eqb, ltb, leb, ◌⊎◌, [], length, get_or, sym, refl, ap, ◌∙◌, inl, inr, zero-le, arith}
+use Rattle.std.proofs.lemmas.List.{get_or_past}
+use Rattle.std.proofs.lemmas.Bool.{and_parts, and_from, and_left, and_right, and_cases, ltb-true, ltb-false, leb-true, eqb-true, lt-ltb, le-ltb, cases_lt, cond-false, cond_both, both_ways}
 use Rattle.counting.specs.Counting.{count as count_of, most, all}
 use Rattle.counting.proofs.Searches.{all_at}
 use Rattle.counting.proofs.Sums.{count_none, most_none}
@@ -58,10 +59,25 @@ module _ (d : Description) (t : Tested d) where
   abbrev largest : ℕ → ℕ → ℕ
   largest b c = most (λ r. cond ((fenced d).belongs r c) (clashes (fenced d) b r) 0) d.count
 
+  sizes : (length d.p ≡ 3) × (length d.q ≡ 3) × ((b : ℕ) → b < 3 → length (get_or d.q b []) ≡ 3)
+  sizes =
+      let one = and_parts (eqb (length d.p) 3) _ t.sized in
+      let rest = and_parts (eqb (length d.q) 3) _ one.1 in
+      (eqb-true (length d.p) 3 one.0, eqb-true (length d.q) 3 rest.0, λ b h. eqb-true _ 3 (all_at (λ b. eqb (length (get_or d.q b [])) 3) classes b rest.1 h))
+
+  no_p : (c : ℕ) → 3 ≤ c → (fenced d).p c ≡ 0
+  no_p c ge = get_or_past d.p c 0 (omega (arith, sizes.0))
+
+  no_q : (b c : ℕ) → (3 ≤ b) ⊎ (3 ≤ c) → (fenced d).q b c ≡ 0
+  no_q b c outside = elim (cases_lt b 3) [
+    | inr ge ↦ ap (λ row. get_or row c 0) (get_or_past d.q b [] (omega (arith, sizes.1)))
+    | inl b3 ↦ get_or_past (get_or d.q b []) c 0 (elim outside [ inl ge ↦ absurd (omega arith) | inr ge ↦ omega (arith, sizes.2 b b3) ])
+  ]
+
   counted_at : (c : ℕ) → (fenced d).p c ≡ count_of (λ r. (fenced d).belongs r c) d.count
   counted_at c = elim (cases_lt c 3) [
-    | inl lt ↦ cond-true (ltb c 3) (d.p c) 0 (lt-ltb c 3 lt) ∙ eqb-true (d.p c) _ (all_at (λ c. eqb (d.p c) (count_of (λ r. (fenced d).belongs r c) d.count)) classes c t.counted lt)
-    | inr ge ↦ cond-false (ltb c 3) (d.p c) 0 (le-ltb c 3 ge) ∙ sym (count_none (λ r. (fenced d).belongs r c) d.count (λ r _. no_class c ge r))
+    | inl lt ↦ eqb-true ((fenced d).p c) _ (all_at (λ c. eqb ((fenced d).p c) (count_of (λ r. (fenced d).belongs r c) d.count)) classes c t.counted lt)
+    | inr ge ↦ no_p c ge ∙ sym (count_none (λ r. (fenced d).belongs r c) d.count (λ r _. no_class c ge r))
   ]
 
   -- nothing clashes where one of the classes is none
@@ -71,20 +87,22 @@ module _ (d : Description) (t : Tested d) where
       (λ _. count_none (λ s. (fenced d).belongs s b && (fenced d).overlaps r s) d.count (λ s _. and_left _ _ (no_class b ge s))) (λ _. refl)
 
   reckoned_at : (b c : ℕ) → (fenced d).q b c ≡ largest b c
-  reckoned_at b c = elim (cases_lt b 3) [
-    | inr ge ↦ cond-false _ (d.q b c) 0 (and_left _ _ (le-ltb b 3 ge)) ∙ sym (most_none _ d.count (λ r _. reckoned_outside b c (inl ge) r))
-    | inl b3 ↦ elim (cases_lt c 3) [
-      | inr ge ↦ cond-false _ (d.q b c) 0 (and_right _ _ (le-ltb c 3 ge)) ∙ sym (most_none _ d.count (λ r _. reckoned_outside b c (inr ge) r))
-      | inl c3 ↦
-          let row = all_at (λ b. all (λ c. eqb (d.q b c) (largest b c)) 3) classes b t.reckoned b3 in
-          cond-true _ (d.q b c) 0 (and_from _ _ (lt-ltb b 3 b3) (lt-ltb c 3 c3)) ∙ eqb-true (d.q b c) _ (all_at (λ c. eqb (d.q b c) (largest b c)) classes c row c3)
-    ]
-  ]
+  reckoned_at b c =
+      let none : (3 ≤ b) ⊎ (3 ≤ c) → (fenced d).q b c ≡ largest b c = λ outside. no_q b c outside ∙ sym (most_none _ d.count (λ r _. reckoned_outside b c outside r)) in
+      elim (cases_lt b 3) [
+        | inr ge ↦ none (inl ge)
+        | inl b3 ↦ elim (cases_lt c 3) [
+          | inr ge ↦ none (inr ge)
+          | inl c3 ↦
+              let row = all_at (λ b. all (λ c. eqb ((fenced d).q b c) (largest b c)) 3) classes b t.reckoned b3 in
+              eqb-true ((fenced d).q b c) _ (all_at (λ c. eqb ((fenced d).q b c) (largest b c)) classes c row c3)
+        ]
+      ]
 
   room_at : (b c : ℕ) → b < 3 → c < 3 → (fenced d).q b c < (fenced d).p b
   room_at b c b3 c3 =
-      let row = all_at (λ b. all (λ c. ltb (d.q b c) (d.p b)) 3) classes b t.room b3 in
-      rw (lt-ltb b 3 b3, lt-ltb c 3 c3) (ltb-true (d.q b c) (d.p b) (all_at (λ c. ltb (d.q b c) (d.p b)) classes c row c3))
+      let row = all_at (λ b. all (λ c. ltb ((fenced d).q b c) ((fenced d).p b)) 3) classes b t.room b3 in
+      ltb-true ((fenced d).q b c) ((fenced d).p b) (all_at (λ c. ltb ((fenced d).q b c) ((fenced d).p b)) classes c row c3)
 
   pub lawful : Lawful (fenced d)
   lawful = record {

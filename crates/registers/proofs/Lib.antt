@@ -1,3 +1,4 @@
 pub mod RunBits
 pub mod Laws
 pub mod Bounds
+mod Ranges

@@ -15,11 +15,5 @@ pub fn count_clashes<F: RegisterFile>(file: &F, r: usize, class: u8) -> u8
     ensures few { FewClashes (F.RegisterFile.model file.now) }
     ensures attained { QAttained (F.RegisterFile.model file.now) }
 {
-    let mut n = 0;
-    for s in 0..file.registers() {
-        if clash(file, r, s, class) {
-            n += 1;
-        }
-    }
-    n
+    (0..F::R).filter(|&s| clash(file, r, s, class)).count() as u8
 }

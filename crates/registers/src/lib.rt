@@ -12,11 +12,9 @@ pub trait RegisterFile {
     /// The number of registers.
     const R: usize;
 
-    ghost model: { Self → Model };
+    ghost R: { ℕ };
 
-    /// `R` again: a contract cannot name the constant.
-    fn registers(&self) -> usize
-        ensures { result ≡ (model self.now).count };
+    ghost model: { Self → Model };
 
     /// Whether register `r` is of a class.
     fn belongs(&self, r: usize, class: u8) -> bool
@@ -37,6 +35,15 @@ pub trait RegisterFile {
     /// The most registers of class `b` that one of class `c` overlaps.
     fn q(&self, b: u8, c: u8) -> u8
         ensures { result ≡ (model self.now).q b c };
+
+    /// `R` again, for those who hold a file and do not name its type.
+    final fn registers(&self) -> usize
+        ensures { result ≡ (model self.now).count }
+    {
+        Self::R
+    }
+
+    ghost sized: { (x : Self) → (model x).count ≡ R };
 
     ghost lawful: { (x : Self) → Lawful (model x) };
 }

@@ -9,19 +9,24 @@ pub struct Run {
     ghost inside: { (width ≤ 32) × ((low < 128) × (low + width ≤ 128)) },
 }
 
-/// The number in a run.
-pub fn fetch(bits: u128, run: Run) -> u32
-    ensures { result ≡ part bits run.low run.width }
-{
-    ((bits >> run.low) % (1 << run.width)) as u32
-}
+impl Run {
+    /// The run without a bit.
+    pub const EMPTY: Run = Run { low: 0, width: 0 };
 
-/// The bits with `v`, as much of it as fits, in a run.
-pub fn store(bits: u128, run: Run, v: u32) -> u128
-    ensures { result ≡ patched bits run.low run.width v }
-{
-    let above = bits >> run.low >> run.width;
-    let below = bits % (1 << run.low);
-    let new = v as u128 % (1 << run.width);
-    ((above << run.width | new) << run.low) | below
+    /// The number in a run.
+    pub fn fetch(self, bits: u128) -> u32
+        ensures { result ≡ part bits self.low self.width }
+    {
+        ((bits >> self.low) % (1 << self.width)) as u32
+    }
+
+    /// The bits with `v`, as much of it as fits, in a run.
+    pub fn store(self, bits: u128, v: u32) -> u128
+        ensures { result ≡ patched bits self.low self.width v }
+    {
+        let above = bits >> self.low >> self.width;
+        let below = bits % (1 << self.low);
+        let new = v as u128 % (1 << self.width);
+        ((above << self.width | new) << self.low) | below
+    }
 }

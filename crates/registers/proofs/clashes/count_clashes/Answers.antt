@@ -1,25 +1,22 @@
-use Rattle.std.proofs.Common.{◌≡◌, ◌&&◌, sym, refl, ap, ◌∙◌, arith}
-use Rattle.counting.specs.Counting.{sum, count as count_of}
-use Rattle.counting.proofs.Sums.{count_yes, count_no}
+use Rattle.std.proofs.Common.{◌∙◌, ◌&&◌, Bool, ℕ, arith, sym, ap, rules}
+use Rattle.std.specs.List.{range_with_len}
+use Rattle.std.proofs.lemmas.Iterator.{YieldsList-from_range}
+use Rattle.std.proofs.lemmas.Iterator.Consumers.{YieldsList-from_filter, count_from_yields_List}
+use Rattle.std.proofs.lemmas.List.Sums.{length-filter}
+use Rattle.counting.specs.Counting.{count as count_of}
 use Rattle.registers.proofs.Bounds.{few_clashes, q_attained}
+use Rattle.registers.proofs.Ranges.{counts}
 use Rattle.registers.proofs.clashes.count_clashes.Goals as goal
-use Rattle.registers.proofs.clashes.count_clashes.Goals.{then-clash, else-clash}
-
-pub loop-s-init : goal.loop-s-init
-unfolding sum
-loop-s-init g c = (refl, omega arith)
-
-pub loop-s-preserved : goal.loop-s-preserved
-loop-s-preserved g c =
-    let m = g.F.RegisterFile.model c.args.file.now in
-    elim c.if-clash.branch [
-      | then-clash w ↦ (count_yes (λ s. m.belongs s c.args.class && m.overlaps c.args.r s) c.loop-s.s c.loop-s.n _ c.loop-s.invariant.0 (sym c.clash.ensures ∙ w.if-clash.true) w.n-is, omega (arith, w.n-is))
-      | else-clash w ↦ (count_no (λ s. m.belongs s c.args.class && m.overlaps c.args.r s) c.loop-s.s c.loop-s.n _ c.loop-s.invariant.0 (sym c.clash.ensures ∙ w.if-clash.false) w.n-is, omega (arith, w.n-is))
-    ]
 
 pub returns : goal.returns
 returns g c =
     let m = g.F.RegisterFile.model c.args.file.now in
     let l = g.met.F.RegisterFile.lawful c.args.file.now in
-    let all_seen : c.loop-s.s ≡ m.count = omega arith in
-    record { counted = c.loop-s.invariant.0 ∙ ap (count_of (λ s. m.belongs s c.args.class && m.overlaps c.args.r s)) all_seen; few = few_clashes m l; attained = q_attained m l }
+    let sized = g.met.F.RegisterFile.sized c.args.file.now in
+    let t : ℕ → Bool = λ s. m.belongs s c.args.class && m.overlaps c.args.r s in
+    let passed = count_from_yields_List c.filter.result c.count.result c.count.ensures.ran (YieldsList-from_filter _ t (YieldsList-from_range 0 g.F.RegisterFile.R g.F.RegisterFile.R (cc) (omega arith)) c.filter.ensures.closure (λ x r q k. search rules)) in
+    record {
+      counted = passed ∙ length-filter t (range_with_len 0 g.F.RegisterFile.R) ∙ counts t g.F.RegisterFile.R ∙ ap (count_of t) (sym sized);
+      few = few_clashes m l;
+      attained = q_attained m l;
+    }
