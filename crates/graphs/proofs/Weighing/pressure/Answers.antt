@@ -6,11 +6,11 @@ use Rattle.sets.proofs.Orders.{size_capped}
 use Rattle.registers.specs.Model.{Model}
 use Rattle.graphs.specs.declared.variables.Variables.{Variables}
 use Rattle.graphs.proofs.Pressing.{pressed, pressed_few, pressed_none, pressed_more, pressed_all, near_is}
-use Rattle.graphs.proofs.pressure.Goals as goal
+use Rattle.graphs.proofs.Weighing.pressure.Goals as goal
 
 pub loop-c-init : goal.loop-c-init
 loop-c-init g c =
-    sym (pressed_none (g.F.RegisterFile.model c.args.file.now) c.args.variables.now.classes c.args.variables.now.count c.class-b.result (has (members c.args.by)))
+    sym (pressed_none (g.F.RegisterFile.model c.args.self.now.file.now) c.args.self.now.variables.now.classes c.args.self.now.variables.now.count c.class-b.result (has (members c.args.by)))
 
 pub overflow_mul-total : goal.overflow_mul-total
 overflow_mul-total g c =
@@ -19,8 +19,8 @@ overflow_mul-total g c =
 
 pub loop-c-preserved : goal.loop-c-preserved
 loop-c-preserved g c =
-    let m : Model = g.F.RegisterFile.model c.args.file.now in
-    let vs : Variables = c.args.variables.now in
+    let m : Model = g.F.RegisterFile.model c.args.self.now.file.now in
+    let vs : Variables = c.args.self.now.variables.now in
     let j : ℕ = c.loop-c.c in
     let near = c.len-near.ensures ∙ ap (size 448) c.meet.ensures
     ∙ near_is (members c.args.by) (members (get_or vs.masks j no_set)) vs.classes vs.count j (λ k. vs.masked j k (omega arith)) in
@@ -32,15 +32,15 @@ overflow_add-total g c =
     omega (
       arith,
       loop-c-preserved g c,
-      pressed_few (g.F.RegisterFile.model c.args.file.now) (g.met.F.RegisterFile.lawful c.args.file.now) c.args.variables.now.classes
-          c.args.variables.now.count c.class-b.result (has (members c.args.by)) (c.loop-c.c + 1),
+      pressed_few (g.F.RegisterFile.model c.args.self.now.file.now) (g.met.F.RegisterFile.lawful c.args.self.now.file.now) c.args.self.now.variables.now.classes
+          c.args.self.now.variables.now.count c.class-b.result (has (members c.args.by)) (c.loop-c.c + 1),
     )
 
 pub returns : goal.returns
 returns g c =
-    let m : Model = g.F.RegisterFile.model c.args.file.now in
-    let l = g.met.F.RegisterFile.lawful c.args.file.now in
-    let vs : Variables = c.args.variables.now in
+    let m : Model = g.F.RegisterFile.model c.args.self.now.file.now in
+    let l = g.met.F.RegisterFile.lawful c.args.self.now.file.now in
+    let vs : Variables = c.args.self.now.variables.now in
     let t = has (members c.args.by) in
     let three : c.loop-c.c ≡ 3 = omega arith in
     let all = c.loop-c.invariant ∙ ap (pressed m vs.classes vs.count c.class-b.result t) three
