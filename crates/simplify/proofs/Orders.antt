@@ -1,7 +1,7 @@
 -- What is removed next, and the order of removals.
-use Rattle.std.proofs.Common.{◌≡◌, ℕ, suc, ◌+◌, ◌-◌, ◌*◌, ◌^◌, ◌<◌, ◌≤◌, min, true, false, cond, not, ◌&&◌, eqb, ltb, List, ◌∷◌, ◌++◌, map, length, get_or, take, set, sym, ap, ◌∙◌, inl, inr, append_assoc, append-nil, arith}
+use Rattle.std.proofs.Common.{◌≡◌, ℕ, suc, ◌+◌, ◌-◌, ◌*◌, ◌^◌, ◌<◌, ◌≤◌, min, true, false, cond, not, ◌&&◌, eqb, ltb, List, [], ◌∷◌, ◌++◌, map, length, get_or, sym, ap, ◌∙◌, inl, inr, append_assoc, append-nil, arith}
 use lib.Bits.{bit_xor, xor_lt, and_lt, and_zero_r}
-use Rattle.std.proofs.lemmas.List.{length-take-le, take_more_set}
+use Rattle.std.proofs.lemmas.List.{length-take-le}
 use Rattle.std.proofs.lemmas.Nat.{pow_below, pow_pos}
 use Rattle.std.proofs.lemmas.Bool.{cases_lt, cases_eq, lt-ltb, le-ltb, ltb-true, ne_eqb, and_parts}
 use Rattle.counting.specs.Counting.{least, range}
@@ -22,12 +22,14 @@ use Rattle.sets.proofs.Words.{joined_lt}
 use Rattle.graphs.proofs.Pressing.{sum_cut}
 use Rattle.sets.specs.declared.NodeSet.{NodeSet}
 use Rattle.graphs.specs.declared.variables.Variables.{Variables}
-use Rattle.simplify.specs.Lightness.{Drawn, Light}
+use Rattle.graphs.specs.Graphs.{classes_of}
+use Rattle.simplify.specs.Lightness.{Light}
+use Rattle.simplify.proofs.Alike.{Alike, removals_alike}
 use Rattle.simplify.proofs.Easing.{following, following_heavy, passed_over}
 
 -- a graph has as many nodes as there are variables
-pub drawn_length : (vs : Variables) (es : List NodeSet) (g : Graph) → Drawn vs es g → length g.classes ≡ vs.count
-drawn_length vs es g d = ap (λ (cs : List ℕ). length cs) d.0 ∙ length-take-le vs.count vs.classes (omega (arith, vs.few.1, vs.whole.0))
+pub drawn_length : (vs : Variables) → length (classes_of vs) ≡ vs.count
+drawn_length vs = length-take-le vs.count vs.classes (omega (arith, vs.few.1, vs.whole.0))
 
 -- a number of 448 or more is in no node set
 meet_past : (x v : ℕ) → x < 2 ^ 448 → 448 ≤ v → meet x (single v) ≡ 0
@@ -124,12 +126,11 @@ unfolding removals
 removals_step m g costs k left after r e f = rw (f, e)
 
 -- one node more is removed
-pub order_more : (m : Model) (g : Graph) (costs : List ℕ) (order : List Removed) (i count left after nodes : ℕ) (r : Removed) → i < count → i < length order →
-    r ≡ next_removed m g costs left → after ≡ minus left (single r.node) → take i order ++ removals m g costs (count - i) left ≡ removals m g costs count nodes →
-    take (i + 1) (set order i r) ++ removals m g costs (count - (i + 1)) after ≡ removals m g costs count nodes
-order_more m g costs order i count left after nodes r more room e f h =
+pub order_more : (m : Model) (g : Graph) (costs : List ℕ) (kept more all : List Removed) (i count left after : ℕ) (r : Removed) → i < count → more ≡ kept ++ (r ∷ []) →
+    r ≡ next_removed m g costs left → after ≡ minus left (single r.node) → kept ++ removals m g costs (count - i) left ≡ all → more ++ removals m g costs (count - (i + 1)) after ≡ all
+order_more m g costs kept more all i count left after r room one e f h =
     let less : count - i ≡ suc (count - (i + 1)) = omega arith in
-    rw (take_more_set order i r room, append_assoc) (rw (less, removals_step m g costs (count - (i + 1)) left after r e f) at h)
+    rw (one, append_assoc) (rw (less, removals_step m g costs (count - (i + 1)) left after r e f) at h)
 
 -- how many nodes of a set are in the graph
 pub nodes_count : (nodes n : ℕ) → n ≤ 448 → size 448 (meet nodes (up_to (min n 448))) ≡ size n nodes
@@ -139,12 +140,12 @@ nodes_count nodes n few =
     ∙ sum_ext _ _ n (λ k l. rw (has_meet nodes (up_to n) k, has_up_to n k, lt-ltb k n l) (grind arith)))
 
 -- all are removed
-pub order_done : (m : Model) (g : Graph) (costs : List ℕ) (vars : ℕ) (rows : List Row) (order : List Removed) (i count left nodes : ℕ) → i ≡ count →
-    take i order ++ removals m g costs (count - i) left ≡ removals m g costs count nodes → costs ≡ map (cost g rows) (range vars 0) → count ≡ size (length g.classes) g.nodes → g.nodes ≡ nodes →
-    take count order ≡ order_of m vars rows g
+pub order_done : (m : Model) (g h : Graph) (costs : List ℕ) (vars : ℕ) (rows : List Row) (kept : List Removed) (i count left nodes : ℕ) → Alike g h → i ≡ count →
+    kept ++ removals m h costs (count - i) left ≡ removals m h costs count nodes → costs ≡ map (cost g rows) (range vars 0) → count ≡ size (length g.classes) g.nodes → g.nodes ≡ nodes →
+    kept ≡ order_of m vars rows g
 unfolding order_of removals
-order_done m g costs vars rows order i count left nodes e h priced counted same =
+order_done m g h costs vars rows kept i count left nodes alike e is priced counted same =
     let z : count - count ≡ 0 = omega arith in
-    let all : take count order ≡ removals m g costs count nodes = rw (e, z, append-nil) at h in
+    let all : kept ≡ removals m h costs count nodes = rw (e, z, append-nil) at is in
     let table = map (cost g rows) (range vars 0) in
-    all ∙ ap (λ (cs : List ℕ). removals m g cs count nodes) priced ∙ ap (λ (n : ℕ). removals m g table n nodes) counted ∙ ap (λ (x : ℕ). removals m g table (size (length g.classes) g.nodes) x) (sym same)
+    all ∙ sym (removals_alike m g h alike costs count nodes) ∙ ap (λ (cs : List ℕ). removals m g cs count nodes) priced ∙ ap (λ (n : ℕ). removals m g table n nodes) counted ∙ ap (λ (x : ℕ). removals m g table (size (length g.classes) g.nodes) x) (sym same)
