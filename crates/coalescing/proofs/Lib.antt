@@ -1,5 +1,4 @@
 mod Lists
 mod Copying
 mod Contracting
-mod Walking
 mod Coalescing

@@ -1,2 +1,4 @@
 pub mod Masks
 pub mod Pressing
+pub mod Walking
+pub mod Drawing

@@ -2,7 +2,7 @@
 
 pub mod variables;
 
-ghost use Rattle.std.specs.Prelude.{◌≡◌, ℕ, ◌≤◌, min, ◌&&◌, length, take, ◌==◌, nat_lt, slice_index};
+ghost use Rattle.std.specs.Prelude.{◌≡◌, ℕ, ◌<◌, ◌≤◌, min, Bool, ◌&&◌, length, take, ◌==◌, nat_lt, slice_index};
 ghost use Rattle.sets.specs.Sets.{has};
 ghost use Rattle.sets.specs.Words.{members, sets_of};
 ghost use Rattle.rounds.specs.Interference.{Graph, beside as beside_of};
@@ -23,63 +23,95 @@ impl Variables {
             source: source.min(64),
             count,
             classes,
-            masks: [
-                mask(count, &classes, 0),
-                mask(count, &classes, 1),
-                mask(count, &classes, 2),
-            ],
+            masks: [0, 1, 2].map(|class| mask(&classes[..count], class)),
         }
+    }
+
+    // The class of each variable.
+    pub fn as_slice(&self) -> &[u8]
+        ensures { result.now ≡ classes_of self.now }
+    {
+        &self.classes[..self.count]
     }
 
     // The class of variable v, or 0 for a number that is no variable.
     pub fn class(&self, v: usize) -> u8
         ensures { result ≡ slice_index (classes_of self.now) v }
     {
-        if v < self.count { self.classes[v] } else { 0 }
+        self.as_slice().get(v).copied().unwrap_or(0)
     }
 }
 
-// The variables below count of a class.
-fn mask(count: usize, classes: &[u8], class: u8) -> NodeSet
-    requires { (count ≤ 448) × (length classes.now ≡ 448) }
-    ensures { (k : ℕ) → has (members result) k ≡ (nat_lt k count && slice_index classes.now k == class) }
+// The variables of a class.
+fn mask(classes: &[u8], class: u8) -> NodeSet
+    requires { length classes.now ≤ 448 }
+    ensures { (k : ℕ) → has (members result) k ≡ (nat_lt k (length classes.now) && slice_index classes.now k == class) }
 {
     let mut set = NodeSet::EMPTY;
-    for k in 0..count {
-        if classes[k] == class {
+    for (k, c) in classes.iter().enumerate() {
+        if *c == class {
             set = set.with(k);
         }
     }
     set
 }
 
+// The members of a set that pass a test.
+pub fn passing<T: Fn(usize) -> bool>(set: NodeSet, test: T) -> NodeSet
+    requires { T.IsAlwaysCallable test }
+    ensures { (t : ℕ → Bool) → ((v : ℕ) (r : Bool) → v < 448 → T.post test v r → r ≡ t v) → (k : ℕ) → has (members result) k ≡ (has (members set) k && t k) }
+{
+    let mut kept = NodeSet::EMPTY;
+    let mut v = set.next(0);
+    while v < NodeSet::CAPACITY {
+        if test(v) {
+            kept = kept.with(v);
+        }
+        v = set.next(v + 1);
+    }
+    kept
+}
+
 // The neighbours of v: every question about edges is asked here.
 pub fn beside(edges: &[NodeSet], v: usize) -> NodeSet
     ensures { members result ≡ beside_of (sets_of edges.now) v }
 {
-    if v < edges.len() {
-        return edges[v];
-    }
-    NodeSet::empty()
+    edges.get(v).copied().unwrap_or(NodeSet::EMPTY)
 }
 
-// The pressure on v by the nodes of a set: by class, as many as the set has of it.
-pub fn pressure<F: RegisterFile>(file: &F, variables: &Variables, v: usize, by: NodeSet) -> u32
-    ensures exact { (g : Graph) → g.classes ≡ classes_of variables.now → result ≡ pressure_of (F.RegisterFile.model file.now) g v (has (members by)) }
-    ensures small { result ≤ 28672 }
-{
-    let b = variables.class(v);
-    let mut total = 0;
-    for c in 0..3_u8 {
-        let near = by.meet(variables.masks[c as usize]).len();
-        total += file.q(b, c) as u32 * near;
-    }
-    total
+// What each question of pressure is asked over: a register file, the variables, and the edges between their nodes.
+#[derive_where(Clone, Copy)]
+pub struct Weighing<'a, F> {
+    pub file: &'a F,
+    pub variables: &'a Variables,
+    pub edges: &'a [NodeSet],
 }
 
-// Whether v passes the test under the pressure of the nodes of a set.
-pub fn passes<F: RegisterFile>(file: &F, variables: &Variables, v: usize, by: NodeSet) -> bool
-    ensures { (g : Graph) → g.classes ≡ classes_of variables.now → result ≡ passes_of (F.RegisterFile.model file.now) g v (has (members by)) }
-{
-    pressure(file, variables, v, by) < file.p(variables.class(v)) as u32
+impl<'a, F: RegisterFile> Weighing<'a, F> {
+    pub fn beside(&self, v: usize) -> NodeSet
+        ensures { members result ≡ beside_of (sets_of self.now.edges.now) v }
+    {
+        beside(self.edges, v)
+    }
+
+    // The pressure on v by the nodes of a set: by class, as many as the set has of it.
+    pub fn pressure(&self, v: usize, by: NodeSet) -> u32
+        ensures exact { (g : Graph) → g.classes ≡ classes_of self.now.variables.now → result ≡ pressure_of (F.RegisterFile.model self.now.file.now) g v (has (members by)) }
+        ensures small { result ≤ 28672 }
+    {
+        let b = self.variables.class(v);
+        let mut total = 0;
+        for (c, mask) in self.variables.masks.iter().enumerate() {
+            let near = by.meet(*mask).len();
+            total += self.file.q(b, c as u8) as u32 * near;
+        }
+        total
+    }
+
+    // Whether v passes the test under the pressure of the nodes of a set.
+    pub fn passes(&self, v: usize, by: NodeSet) -> bool
+        ensures { (g : Graph) → g.classes ≡ classes_of self.now.variables.now → result ≡ passes_of (F.RegisterFile.model self.now.file.now) g v (has (members by)) }
+    {
+        self.pressure(v, by) < self.file.p(self.variables.class(v)) as u32
+    }
 }

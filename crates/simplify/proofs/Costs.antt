@@ -1,10 +1,10 @@
 -- Costs as they are added up, row by row.
-use Rattle.std.proofs.Common.{◌≡◌, ℕ, zero, suc, ◌+◌, ◌*◌, ◌^◌, ◌<◌, ◌≤◌, Bool, true, false, cond, eqb, ◌⊎◌, List, [], ◌∷◌, ◌++◌, map, length, get_or, take, drop, set, replicate, sym, refl, ap, ◌∙◌, inl, inr, add-mul, arith, get_or-set_other, get_or-set_same}
+use Rattle.std.proofs.Common.{◌≡◌, ℕ, zero, suc, ◌+◌, ◌*◌, ◌^◌, ◌<◌, ◌≤◌, Bool, true, false, cond, eqb, List, [], ◌∷◌, ◌++◌, map, length, get_or, take, drop, set, replicate, option_to_list, sym, refl, ap, ◌∙◌, inl, inr, add-mul, arith, get_or-set_other, get_or-set_same}
 use Rattle.std.proofs.lemmas.List.{drop_more}
 use Rattle.std.proofs.lemmas.Bool.{cases_eq, eq-eqb, ne_eqb}
 use Rattle.counting.specs.Counting.{range}
 use Rattle.rows.specs.declared.Row.{Row}
-use Rattle.rows.specs.Rows.{only, reads, writes, end_row, shape}
+use Rattle.rows.specs.Rows.{only, used, reads, writes, end_row, shape}
 use Rattle.rounds.specs.Interference.{Graph, node_at}
 use Rattle.rounds.specs.Simplify.{members_in, cost}
 
@@ -13,40 +13,37 @@ unfolding members_in
 members_append g v [] ys = omega arith
 members_append g v (x ∷ xs) ys = omega (arith, members_append g v xs ys)
 
--- a place that is used, or not
-members_only : (g : Graph) (v : ℕ) (used : Bool) (x : ℕ) → members_in g v (only used x) ≡ cond used (cond (eqb (node_at g x) v) 1 0) 0
+-- a place in which one variable stands
+members_one : (g : Graph) (v x : ℕ) → members_in g v (x ∷ []) ≡ cond (eqb (node_at g x) v) 1 0
 unfolding members_in
-members_only g v true x = omega arith
-members_only g v false x = refl
+members_one g v x = omega arith
+
+-- what an accessor of a row tells is in the lists of reads and writes
+pub listed : (b : Bool) (x : ℕ) → option_to_list (used b x) ≡ only b x
+listed true x = refl
+listed false x = refl
 
 -- a place is charged to the node that stands in it
-pub charged : (g : Graph) (node : List ℕ) → g.node ≡ node → (used : Bool) (v at price : ℕ) (costs : List ℕ) → at ≡ get_or node v v → used ≡ true → at < length costs →
-    (k : ℕ) → get_or (set costs at (get_or costs at 0 + price)) k 0 ≡ members_in g k (only used v) * price + get_or costs k 0
-charged g node same used v at price costs e on room k =
+pub charged : (g : Graph) (node : List ℕ) → g.node ≡ node → (v at price : ℕ) (costs : List ℕ) → at ≡ get_or node v v → at < length costs →
+    (k : ℕ) → get_or (set costs at (get_or costs at 0 + price)) k 0 ≡ members_in g k (v ∷ []) * price + get_or costs k 0
+charged g node same v at price costs e room k =
     let stands : node_at g v ≡ at = ap (λ (ns : List ℕ). get_or ns v v) same ∙ sym e in
-    rw (members_only g k used v, on, stands) (elim (cases_eq k at) [
+    rw (members_one g k v, stands) (elim (cases_eq k at) [
       | inl p ↦ rw (p, eq-eqb at at refl, get_or-set_same costs at (get_or costs at 0 + price) 0 room) (omega arith)
       | inr p ↦ rw (ne_eqb at k (λ q. p (sym q)), get_or-set_other costs at k (get_or costs at 0 + price) 0 p) (omega arith)
     ])
 
-pub charged_small : (price : ℕ) (costs : List ℕ) (at : ℕ) → price ≤ 1000 → at < length costs → (k : ℕ) → get_or (set costs at (get_or costs at 0 + price)) k 0 ≤ get_or costs k 0 + 1000
-charged_small price costs at few room k =
-    elim (cases_eq k at) [
-      | inl p ↦ rw (p, get_or-set_same costs at (get_or costs at 0 + price) 0 room) (omega arith)
-      | inr p ↦ rw (get_or-set_other costs at k (get_or costs at 0 + price) 0 p) (omega arith)
-    ]
-
--- a place that is not used, or has no node with a cost, is charged to none
-pub spared : (g : Graph) (node : List ℕ) → g.node ≡ node → (used : Bool) (v at price : ℕ) (costs : List ℕ) → at ≡ get_or node v v → (used ≡ false) ⊎ (length costs ≤ at) →
-    (k : ℕ) → k < length costs → get_or costs k 0 ≡ members_in g k (only used v) * price + get_or costs k 0
-spared g node same used v at price costs e (inl off) k h = rw (members_only g k used v, off) (omega arith)
-spared g node same used v at price costs e (inr past) k h =
+-- a place whose node has no cost is charged to none
+pub spared : (g : Graph) (node : List ℕ) → g.node ≡ node → (v at price : ℕ) (costs : List ℕ) → at ≡ get_or node v v → length costs ≤ at →
+    (k : ℕ) → k < length costs → get_or costs k 0 ≡ members_in g k (v ∷ []) * price + get_or costs k 0
+spared g node same v at price costs e past k h =
     let stands : node_at g v ≡ at = ap (λ (ns : List ℕ). get_or ns v v) same ∙ sym e in
-    rw (members_only g k used v, stands, ne_eqb at k (λ q. omega arith)) (none used)
-  where
-    none : (b : Bool) → get_or costs k 0 ≡ cond b 0 0 * price + get_or costs k 0
-    none true = omega arith
-    none false = omega arith
+    rw (members_one g k v, stands, ne_eqb at k (λ q. omega arith)) (omega arith)
+
+-- and so is one in which no variable stands
+pub spared_none : (g : Graph) (price was k : ℕ) → was ≡ members_in g k [] * price + was
+unfolding members_in
+spared_none g price was k = omega arith
 
 -- the places of a row, one after another
 pub row_charged : (g : Graph) (v : ℕ) (r : Row) (price k₀ k₁ k₂ k₃ : ℕ) →

@@ -1,3 +1,4 @@
+pub mod Alike
 pub mod Costs
 pub mod Easing
-pub mod Removing
+pub mod Orders

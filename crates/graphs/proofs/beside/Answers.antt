@@ -1,14 +1,17 @@
-use Rattle.std.proofs.Common.{sym, ap, ◌∙◌}
+use Rattle.std.proofs.Common.{◌≡◌, length, get_or, sym, ap, ◌∙◌, inl, inr, rules}
 use lib.ListN.{length-map}
+use Rattle.std.proofs.lemmas.Bool.{cases_lt}
 use Rattle.std.proofs.lemmas.List.{get_or-map, get_or_past}
-use Rattle.sets.specs.Words.{joined, members, no_set, sets_of}
+use Rattle.sets.specs.Words.{joined, members, empty_set, sets_of}
 use Rattle.graphs.proofs.beside.Goals as goal
-
-pub returns-then-v-edges : goal.returns-then-v-edges
-returns-then-v-edges c = sym (get_or-map members c.args.edges.now c.args.v no_set 0 c.if-v-edges.true)
 
 pub returns : goal.returns
 unfolding joined
 returns c =
-    ap members c.empty.ensures
-    ∙ sym (get_or_past (sets_of c.args.edges.now) c.args.v 0 (simp length-map c.if-v-edges.false))
+    let es = c.args.edges.now in
+    let v = c.args.v in
+    let e : c.unwrap_or.result ≡ get_or es v empty_set = search rules in
+    ap members e ∙ elim (cases_lt v (length es)) [
+      | inl l ↦ sym (get_or-map members es v empty_set 0 l)
+      | inr l ↦ ap members (get_or_past es v empty_set l) ∙ sym (get_or_past (sets_of es) v 0 (simp length-map l))
+    ]

@@ -1,10 +1,10 @@
-use Rattle.std.proofs.Common.{◌≡◌, ℕ, eqb, get_or, ap, ◌∙◌, arith}
+use Rattle.std.proofs.Common.{◌≡◌, ℕ, eqb, length, get_or, ap, ◌∙◌, arith}
 use Rattle.std.proofs.lemmas.Bool.{eq-eqb, ne_eqb}
 use Rattle.sets.specs.Sets.{has}
 use Rattle.sets.specs.Words.{joined, members}
 use Rattle.graphs.proofs.Masks.{mask_none, mask_yes, mask_no}
 use Rattle.graphs.proofs.mask.Goals as goal
-use Rattle.graphs.proofs.mask.Goals.{then-classes-k, else-classes-k}
+use Rattle.graphs.proofs.mask.Goals.{then-c-class, else-c-class}
 
 pub loop-k-init : goal.loop-k-init
 unfolding joined
@@ -12,14 +12,14 @@ loop-k-init c = λ j. mask_none (λ k. eqb (get_or c.args.classes.now k 0) c.arg
 
 pub loop-k-preserved : goal.loop-k-preserved
 loop-k-preserved c =
-    elim c.if-classes-k.branch [
-      | then-classes-k w ↦ λ j.
+    elim c.if-c-class.branch [
+      | then-c-class w ↦ λ j.
           ap (λ s. has (members s) j) w.set-is ∙ ap (λ (x : ℕ). has x j) w.with-set.ensures
-          ∙ mask_yes (λ k. eqb (get_or c.args.classes.now k 0) c.args.class) (members c.loop-k.set) c.loop-k.k (omega arith) c.loop-k.invariant (eq-eqb _ _ w.if-classes-k.true) j
-      | else-classes-k w ↦ λ j.
+          ∙ mask_yes (λ k. eqb (get_or c.args.classes.now k 0) c.args.class) (members c.loop-k.set) c.loop-k.k (omega arith) c.loop-k.invariant (eq-eqb _ _ w.if-c-class.true) j
+      | else-c-class w ↦ λ j.
           ap (λ s. has (members s) j) w.set-is
-          ∙ mask_no (λ k. eqb (get_or c.args.classes.now k 0) c.args.class) (members c.loop-k.set) c.loop-k.k c.loop-k.invariant (ne_eqb _ _ w.if-classes-k.false) j
+          ∙ mask_no (λ k. eqb (get_or c.args.classes.now k 0) c.args.class) (members c.loop-k.set) c.loop-k.k c.loop-k.invariant (ne_eqb _ _ w.if-c-class.false) j
     ]
 
 pub returns : goal.returns
-returns c = let e : c.loop-k.k ≡ c.args.count = omega arith in rw e at c.loop-k.invariant
+returns c = let e : c.loop-k.k ≡ length c.args.classes.now = omega arith in rw e at c.loop-k.invariant

@@ -1,8 +1,0 @@
-use Rattle.std.proofs.Common.{◌≡◌}
-use Rattle.sets.specs.Sets.{has}
-use Rattle.sets.specs.Words.{members}
-use Rattle.graphs.proofs.Pressing.{pressed}
-use Rattle.graphs.proofs.pressure.Given as goal
-
-abbrev pub invariant-loop-c : goal.invariant-loop-c
-invariant-loop-c g l = l.total ≡ pressed (g.F.RegisterFile.model l.file) l.variables.classes l.variables.count l.b (has (members l.by)) l.c
