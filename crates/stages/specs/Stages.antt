@@ -4,10 +4,11 @@ use Rattle.faults.specs.declared.ProgramFault.{ProgramFault}
 use Rattle.rows.specs.Rows.{Program}
 use Rattle.source.specs.Results.{program_of}
 use Rattle.registers.specs.Model.{Model, Lawful}
-use Rattle.rounds.specs.Round.{colours}
+use Rattle.rounds.specs.Round.{Outcome, colours}
 use Rattle.compiling.specs.Working.{Working, Compiled, round_of}
 use Rattle.compiling.specs.Rewrite.{ticket, rewritten}
 use Rattle.compiling.specs.Emit.{Coloured, coloured}
+use Rattle.drafts.specs.declared.draft.Draft.{Draft}
 use Rattle.drafts.specs.declared.token.Token.{Token}
 use Rattle.drafts.specs.Drafts.{working_of, coloured_of, compiled_of, ticket_of, Inside}
 use Rattle.histories.specs.Histories.{Grown, Fitting}
@@ -46,6 +47,11 @@ Pending t w = (m : Model) × (ms : List Model) × (bs : List ℕ) × Grown ms bs
 -- a round of such a program coloured it
 abbrev pub Painted : Coloured → Type 0
 Painted c = (m : Model) × (ms : List Model) × (bs : List ℕ) × (w : Working) × Grown ms bs w × Lawful m × (colours (round_of m w) ≡ true) × (c ≡ coloured w (round_of m w))
+
+-- what a round of a working program came to: the draft that it coloured, or the token of its spill order
+abbrev pub Turned : Working → Outcome → Result Draft Token → Type 0
+Turned w o (Ok d) = (colours o ≡ true) × (coloured_of d ≡ coloured w o)
+Turned w o (Err t) = (colours o ≡ false) × (ticket_of t w ≡ ticket w o)
 
 -- how a round ended, by its flag
 abbrev pub Ended : Bool → Token → Record → Type 0

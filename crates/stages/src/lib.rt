@@ -17,7 +17,7 @@ ghost use Rattle.drafts.specs.Drafts.{working_of, coloured_of, ticket_of};
 ghost use Rattle.histories.specs.Histories.{Grown, Finished, end_program, end_code};
 ghost use Rattle.agreement.specs.Keeping.{Prompt};
 ghost use Rattle.allocation.specs.Allocation.{afterwards};
-ghost use Rattle.stages.specs.Stages.{program_in, working_in, coloured_in, compiled_in, holding, unless_fault, Ready};
+ghost use Rattle.stages.specs.Stages.{program_in, working_in, coloured_in, compiled_in, holding, unless_fault, Turned, Ready};
 
 use admission::{admitted, short_part};
 use allocation::allocate;
@@ -108,30 +108,29 @@ pub fn room(
     }
 }
 
-// How a round ended: the draft then, whether it spilled, and what goes out if it did.
-#[derive(Clone, Copy)]
-struct Turn {
-    draft: Draft,
-    spilled: bool,
-    token: Token,
-}
+// What a spill order asks for after a round that coloured: nothing.
+const NOTHING_OUT: Token = Token {
+    out: NodeSet::EMPTY,
+    hoped: NodeSet::EMPTY,
+    slots: [0; 64],
+    given: 0,
+};
 
+// The draft that a round coloured, or what goes out if it spilled.
 fn take_turn<F: RegisterFile>(
     draft: &Draft,
     file: &F,
     first: &mut [NodeSet],
     second: &mut [NodeSet],
     third: &mut [NodeSet],
-) -> Turn
+) -> Result<Draft, Token>
     requires { Ready (F.RegisterFile.model file.now) (working_of draft.now) }
-    ensures flag { result.spilled ≡ not (colours (round_of (F.RegisterFile.model file.now) (working_of draft.now))) }
-    ensures out { result.spilled ≡ true → (result.draft ≡ draft.now) × (ticket_of result.token (working_of draft.now) ≡ ticket (working_of draft.now) (round_of (F.RegisterFile.model file.now) (working_of draft.now))) }
-    ensures painted { result.spilled ≡ false → coloured_of result.draft ≡ coloured_by (working_of draft.now) (round_of (F.RegisterFile.model file.now) (working_of draft.now)) }
+    ensures turned { Turned (working_of draft.now) (round_of (F.RegisterFile.model file.now) (working_of draft.now)) result }
     ensures memory { parts first.new second.new third.new ≡ afterwards (parts first.old second.old third.old) }
 {
     let variables = Variables::of(draft.source.vars, draft.nodes, draft.classes);
     let lines = Lines {
-        rows: &draft.rows[0..draft.count],
+        rows: &draft.rows[..draft.count],
     };
     let end = allocate(
         file,
@@ -142,19 +141,10 @@ fn take_turn<F: RegisterFile>(
         second,
         third,
     );
-    let token = spill(draft, &end);
     if end.spilled.is_empty() {
-        Turn {
-            draft: colour(draft, &end),
-            spilled: false,
-            token,
-        }
+        Ok(colour(draft, &end))
     } else {
-        Turn {
-            draft: *draft,
-            spilled: true,
-            token,
-        }
+        Err(spill(draft, &end))
     }
 }
 
@@ -174,12 +164,20 @@ pub fn round<'a, F: RegisterFile>(
     ensures memory { parts first.new second.new third.new ≡ afterwards (parts first.old second.old third.old) }
 {
     let Admitted { record } = p;
-    let end = take_turn(&record.draft, file, first, second, third);
-    *record = Record { draft: end.draft };
-    Rounded {
-        record,
-        spilled: end.spilled,
-        token: end.token,
+    match take_turn(&record.draft, file, first, second, third) {
+        Ok(draft) => {
+            *record = Record { draft };
+            Rounded {
+                record,
+                spilled: false,
+                token: NOTHING_OUT,
+            }
+        }
+        Err(token) => Rounded {
+            record,
+            spilled: true,
+            token,
+        },
     }
 }
 

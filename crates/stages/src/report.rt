@@ -24,21 +24,15 @@ impl Record {
     fn class(&self, v: usize) -> Option<u8>
         ensures { result ≡ (if nat_lt v (program_in self.now).vars then Some (slice_index (program_in self.now).classes v) else None) }
     {
-        if v < self.draft.source.vars {
-            Some(self.draft.source.classes[v])
-        } else {
-            None
-        }
+        self.draft.source.classes[..self.draft.source.vars]
+            .get(v)
+            .copied()
     }
 
     fn row(&self, i: usize) -> Option<Row>
         ensures { result ≡ (if nat_lt i (length (program_in self.now).rows) then Some (row_at (program_in self.now).rows i) else None) }
     {
-        if i < self.draft.source.count {
-            Some(self.draft.source.rows[i])
-        } else {
-            None
-        }
+        self.source_rows().get(i).copied()
     }
 }
 
@@ -46,29 +40,25 @@ impl Record {
     fn source_rows(&self) -> &[Row]
         ensures { result.now ≡ (program_in self.now).rows }
     {
-        &self.draft.source.rows[0..self.draft.source.count]
+        &self.draft.source.rows[..self.draft.source.count]
     }
 
     fn code(&self) -> &[Row]
         ensures { result.now ≡ (compiled_in self.now).rows }
     {
-        &self.draft.rows[0..self.draft.count]
+        &self.draft.rows[..self.draft.count]
     }
 
     fn places(&self) -> &[Place]
         ensures { result.now ≡ (compiled_in self.now).places }
     {
-        &self.draft.places[0..self.draft.source.vars]
+        &self.draft.places[..self.draft.source.vars]
     }
 
     fn place(&self, v: usize) -> Option<Place>
         ensures { result ≡ (if nat_lt v (compiled_in self.now).source.vars then Some (place_of (compiled_in self.now).places v) else None) }
     {
-        if v < self.draft.source.vars {
-            Some(self.draft.places[v])
-        } else {
-            None
-        }
+        self.places().get(v).copied()
     }
 }
 

@@ -1,4 +1,4 @@
-use Rattle.std.proofs.Common.{◌≡◌, ℕ, ◌-◌, ◌<◌, Bool, true, false, not, take, refl, ap, arith}
+use Rattle.std.proofs.Common.{◌≡◌, ℕ, ◌<◌, true, false, take, sym, refl, arith}
 use Rattle.sets.specs.Words.{members}
 use Rattle.rounds.specs.Round.{Outcome}
 use Rattle.compiling.specs.Working.{round_of}
@@ -12,13 +12,10 @@ returns-then-is_empty g c =
     let d = c.args.draft.now in
     let o : Outcome = round_of m (working_of d) in
     let s : c.of-variables.result.source ≡ d.source.vars = omega (arith, c.of-variables.ensures.0, d.source.few) in
-    let z : d.count - 0 ≡ d.count = omega arith in
-    let h : Shows d.nodes c.allocate-end.result o = shown m d c.of-variables.result (members c.unspilled.result) (take (d.count - 0) d.rows) c.allocate-end.result s c.of-variables.ensures.1 c.unspilled.ensures (ap (λ (n : ℕ). take n d.rows) z) c.allocate-end.ensures.shows in
+    let h : Shows d.nodes c.allocate-end.result o = shown m d c.of-variables.result (members c.unspilled.result) (take d.count d.rows) c.allocate-end.result s c.of-variables.ensures.1 c.unspilled.ensures refl c.allocate-end.ensures.shows in
     let few : d.rounds < 255 = omega (arith, c.requires.fits.rounds, c.requires.fits.vars) in
     record {
-      flag = ap not (flag d.nodes c.allocate-end.result o true h c.if-is_empty.ensures);
-      out = λ e. absurd (let z : ◌≡◌ {A = ℕ} 0 1 = cc in omega arith);
-      painted = λ e. c.colour.ensures o h c.requires.nodes few;
+      turned = (sym (flag d.nodes c.allocate-end.result o true h c.if-is_empty.ensures), c.colour.ensures o h c.requires.nodes few);
       memory = c.allocate-end.ensures.memory;
     }
 
@@ -28,11 +25,8 @@ returns-else-is_empty g c =
     let d = c.args.draft.now in
     let o : Outcome = round_of m (working_of d) in
     let s : c.of-variables.result.source ≡ d.source.vars = omega (arith, c.of-variables.ensures.0, d.source.few) in
-    let z : d.count - 0 ≡ d.count = omega arith in
-    let h : Shows d.nodes c.allocate-end.result o = shown m d c.of-variables.result (members c.unspilled.result) (take (d.count - 0) d.rows) c.allocate-end.result s c.of-variables.ensures.1 c.unspilled.ensures (ap (λ (n : ℕ). take n d.rows) z) c.allocate-end.ensures.shows in
+    let h : Shows d.nodes c.allocate-end.result o = shown m d c.of-variables.result (members c.unspilled.result) (take d.count d.rows) c.allocate-end.result s c.of-variables.ensures.1 c.unspilled.ensures refl c.allocate-end.ensures.shows in
     record {
-      flag = ap not (flag d.nodes c.allocate-end.result o false h c.if-is_empty.ensures);
-      out = λ e. (refl, c.spill-token.ensures o h (small m (working_of d) c.requires));
-      painted = λ e. absurd (let z : ◌≡◌ {A = ℕ} 0 1 = cc in omega arith);
+      turned = (sym (flag d.nodes c.allocate-end.result o false h c.if-is_empty.ensures), c.spill.ensures o h (small m (working_of d) c.requires));
       memory = c.allocate-end.ensures.memory;
     }
