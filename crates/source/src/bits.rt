@@ -4,6 +4,7 @@ ghost use Rattle.source.specs.Bits.{number as number_in, Took};
 use faults::BitFault;
 
 // Reads a file bit by bit, the most significant bit of each byte first.
+// A reader that is lent could be given another file, so each call says that the file stays.
 #[derive(Drop)]
 pub struct BitReader<'a> {
     file: &'a [u8],

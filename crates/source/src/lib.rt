@@ -224,7 +224,7 @@ fn all_zero(fields: &[(bool, u16)]) -> bool
 fn all_below(used: &[Option<u16>], vars: usize) -> bool
     ensures { result ≡ list_all (λ o. option_map_or (λ v. nat_lt v vars) o true) used.now }
 {
-    used.iter().all(|v| v.map_or(true, |v| (v as usize) < vars))
+    used.iter().all(|v| v.is_none_or(|v| (v as usize) < vars))
 }
 
 // The rows behind the preface of a file.
