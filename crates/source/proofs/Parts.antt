@@ -1,5 +1,5 @@
 -- The parts of the reader against what stands in the file.
-use Rattle.std.proofs.Common.{◌≡◌, ℕ, ◌+◌, ◌-◌, ◌*◌, ◌/◌, ◌<◌, ◌≤◌, min, Bool, true, false, cond, not, ◌&&◌, ◌||◌, eqb, ltb, leb, ◌==◌, List, [], ◌∷◌, ◌++◌, map, length, get_or, drop, set, replicate, Some, None, Ok, Err, Option, Result, sym, refl, ap, ◌∙◌, inl, inr, arith, length-append, length-drop, length-set, get_or-set_other, get_or-set_same}
+use Rattle.std.proofs.Common.{◌≡◌, ℕ, ◌+◌, ◌-◌, ◌*◌, ◌/◌, ◌<◌, ◌≤◌, min, Bool, true, false, cond, not, ◌&&◌, ◌||◌, eqb, ltb, leb, ◌==◌, List, [], ◌∷◌, ◌++◌, map, length, get_or, drop, replicate, Some, None, Ok, Err, Option, Result, sym, refl, ap, ◌∙◌, inl, inr, arith, length-append, length-drop}
 use Rattle.std.specs.List.{range_with_len, list_all}
 use Rattle.std.specs.Option.{option_map_or}
 use Rattle.std.proofs.Math.Bool.{and-true}
@@ -7,7 +7,7 @@ use Rattle.std.proofs.lemmas.List.FromFn.{get_or-map-range_with_len, length-map-
 use Rattle.std.proofs.lemmas.List.{get_or_past, get_or-replicate, get_or-drop, length-replicate, get_or_append_left, get_or-append_right}
 use Rattle.counting.specs.Counting.{least}
 use Rattle.counting.proofs.Searches.{least_is, least_none}
-use Rattle.std.proofs.lemmas.Bool.{lt-ltb, le-ltb, eq-eqb, ne_eqb, cases_Bool, cases_lt, cases_eq, cond-true, cond-false}
+use Rattle.std.proofs.lemmas.Bool.{lt-ltb, le-ltb, eq-eqb, ne_eqb, cases_Bool, cases_lt, cond-true, cond-false}
 use Rattle.faults.specs.declared.BitFault.{BitFault}
 use Rattle.faults.specs.declared.BitFault.TheVariants.{Short, Class, Fill}
 use Rattle.faults.specs.declared.RowFault.{RowFault}
@@ -147,18 +147,6 @@ pub record Classing (bs cs : List ℕ) (v : ℕ) : Type 0 where
   pub same : (k : ℕ) → k < v → get_or cs k 0 ≡ class_in bs k
   pub small : (k : ℕ) → k < v → class_in bs k < 3
   pub size : length cs ≡ vars_in bs
-
-pub classing_none : (bs cs : List ℕ) → length cs ≡ vars_in bs → Classing bs cs 0
-classing_none bs cs e = record { same = λ k h. absurd (omega arith); small = λ k h. absurd (omega arith); size = e }
-
-pub classing_more : (bs cs : List ℕ) (v c : ℕ) → v < vars_in bs → Classing bs cs v → c ≡ class_in bs v → c < 3 → Classing bs (set cs v c) (v + 1)
-classing_more bs cs v c room w e lt =
-    let inside : v < length cs = omega (arith, w.size) in
-    record {
-      same = λ k h. elim (cases_eq k v) [ inl f ↦ rw (f, get_or-set_same cs v c 0 inside) e | inr f ↦ rw (get_or-set_other cs v k c 0 f) (w.same k (omega arith)) ];
-      small = λ k h. elim (cases_eq k v) [ inl f ↦ rw (f, ← e) lt | inr f ↦ w.small k (omega arith) ];
-      size = simp length-set w.size;
-    }
 
 -- the classes of a file, with zeros behind them
 pub class_array : (bs cs zs : List ℕ) → Classing bs cs (vars_in bs) → ((k : ℕ) → get_or zs k 0 ≡ 0) → (v : ℕ) → get_or (cs ++ zs) v 0 ≡ class_of bs v

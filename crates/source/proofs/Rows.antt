@@ -1,10 +1,10 @@
 -- The rows of a file, one after another.
-use Rattle.std.proofs.Common.{◌≡◌, ℕ, ◌+◌, ◌-◌, ◌*◌, ◌<◌, ◌≤◌, true, false, List, map, length, get_or, take, set, is_some, Some, None, Ok, Err, Result, MatchResult, ap, ◌∙◌, inl, inr, arith, length-set, get_or-set_other, get_or-set_same}
+use Rattle.std.proofs.Common.{◌≡◌, ℕ, ◌+◌, ◌-◌, ◌*◌, ◌<◌, ◌≤◌, true, false, List, map, length, get_or, take, is_some, Some, None, Ok, Err, Result, MatchResult, ap, ◌∙◌, arith}
 use mathlib.Core.Path.{fun_ext}
 use Rattle.std.specs.List.{range_with_len}
 use Rattle.std.proofs.lemmas.List.FromFn.{fill_by_all, get_or-map-range_with_len}
 use Rattle.std.proofs.lemmas.List.{length-take-le, get_or-take}
-use Rattle.std.proofs.lemmas.Bool.{lt-ltb, le-ltb, cases_eq}
+use Rattle.std.proofs.lemmas.Bool.{lt-ltb, le-ltb}
 use Rattle.counting.specs.Counting.{least}
 use Rattle.counting.proofs.Searches.{least_is, least_none}
 use Rattle.faults.specs.declared.BitFault.{BitFault}
@@ -22,18 +22,6 @@ pub record Rowing (bs : List ℕ) (rs : List Row) (i : ℕ) : Type 0 where
   pub same : (k : ℕ) → k < i → get_or rs k end_row ≡ row_in bs k
   pub fine : (k : ℕ) → k < i → fault_in bs k ≡ None
   pub size : length rs ≡ count_in bs
-
-pub rowing_none : (bs : List ℕ) (rs : List Row) → length rs ≡ count_in bs → Rowing bs rs 0
-rowing_none bs rs e = record { same = λ k h. absurd (omega arith); fine = λ k h. absurd (omega arith); size = e }
-
-pub rowing_more : (bs : List ℕ) (rs : List Row) (i : ℕ) (r : Row) → i < count_in bs → Rowing bs rs i → fault_in bs i ≡ None → r ≡ row_in bs i → Rowing bs (set rs i r) (i + 1)
-rowing_more bs rs i r room w f e =
-    let inside : i < length rs = omega (arith, w.size) in
-    record {
-      same = λ k h. elim (cases_eq k i) [ inl g ↦ rw (g, get_or-set_same rs i r end_row inside) e | inr g ↦ rw (get_or-set_other rs i k r end_row g) (w.same k (omega arith)) ];
-      fine = λ k h. elim (cases_eq k i) [ inl g ↦ rw g f | inr g ↦ w.fine k (omega arith) ];
-      size = simp length-set w.size;
-    }
 
 -- the first row with a fault decides
 pub rowed_bad : (bs : List ℕ) (rs : List Row) (i : ℕ) (e : RowFault) → i < count_in bs → Rowing bs rs i → fault_in bs i ≡ Some e → rows_fault bs ≡ Some e
