@@ -1,8 +1,6 @@
 -- The parts of the reader against what stands in the file.
-use Rattle.std.proofs.Common.{◌≡◌, ℕ, ◌+◌, ◌-◌, ◌*◌, ◌/◌, ◌<◌, ◌≤◌, min, Bool, true, false, cond, not, ◌&&◌, ◌||◌, eqb, ltb, leb, ◌==◌, List, [], ◌∷◌, ◌++◌, map, length, get_or, drop, replicate, Some, None, Ok, Err, Option, Result, sym, refl, ap, ◌∙◌, inl, inr, arith, length-append, length-drop}
-use Rattle.std.specs.List.{range_with_len, list_all}
-use Rattle.std.specs.Option.{option_map_or}
-use Rattle.std.proofs.Math.Bool.{and-true}
+use Rattle.std.proofs.Common.{◌≡◌, ℕ, ◌+◌, ◌-◌, ◌*◌, ◌/◌, ◌<◌, ◌≤◌, min, true, false, cond, not, ◌&&◌, ◌||◌, eqb, ltb, leb, List, ◌++◌, map, length, get_or, drop, replicate, Some, None, Ok, Err, Option, Result, sym, refl, ap, ◌∙◌, inl, inr, arith, length-append, length-drop}
+use Rattle.std.specs.List.{range_with_len}
 use Rattle.std.proofs.lemmas.List.FromFn.{get_or-map-range_with_len, length-map-range_with_len}
 use Rattle.std.proofs.lemmas.List.{get_or_past, get_or-replicate, get_or-drop, length-replicate, get_or_append_left, get_or-append_right}
 use Rattle.counting.specs.Counting.{least}
@@ -14,9 +12,8 @@ use Rattle.faults.specs.declared.RowFault.{RowFault}
 use Rattle.faults.specs.declared.RowFault.TheVariants.{Opcode, Unused, Variable, Classes, Target}
 use Rattle.rows.specs.declared.Op.{Op}
 use Rattle.rows.specs.declared.Row.{Row}
-use Rattle.rows.specs.declared.Shape.{Shape}
 use Rattle.rows.specs.declared.UnknownOpcode.{UnknownOpcode}
-use Rattle.rows.specs.Rows.{shape, op_of, op_in_source, used, fits}
+use Rattle.rows.specs.Rows.{shape, op_of, op_in_source, fits}
 use Rattle.source.specs.declared.header.Header.{Header}
 use Rattle.source.specs.Bits.{field}
 use Rattle.source.specs.Reading.{vars_in, count_in, class_in, classes_in, class_of, class_bytes, size_of, fill_in, counts_fault, header_fault, class_fault, part, row_by, row_of, spare, known, row_fault}
@@ -96,19 +93,6 @@ judged_by v n class i w m o r e h b =
     let k = known_op (part w 0 4) o (h ∙ ap op_in_source e) in
     let f : r ≡ row_of class w = b ∙ ap (λ (x : Op). row_by x class w) k.1 in
     (cond-false _ _ _ k.0 ∙ ap (tests v n class i w) (sym f), f)
-
-below_used : (b : Bool) (x v : ℕ) → option_map_or (λ y. ltb y v) (used b x) true ≡ (not b || ltb x v)
-below_used true x v = refl
-below_used false x v = refl
-
--- the variables of a row, one by one
-pub known_all : (v : ℕ) (r : Row) → list_all (λ o. option_map_or (λ y. ltb y v) o true) (used (shape r.op).d r.d ∷ (used (shape r.op).a r.a ∷ (used (shape r.op).b r.b ∷ []))) ≡ known v r
-known_all v r = rw (below_used (shape r.op).d r.d v, below_used (shape r.op).a r.a v, below_used (shape r.op).b r.b v, and-true (not (shape r.op).b || ltb r.b v)) refl
-
--- the fields of a row, one by one
-pub spare_all : (w last : ℕ) (r : Row) (s : Shape) → s ≡ shape r.op → last ≡ part w 28 4 →
-    list_all (λ (f : Bool × ℕ). f.0 || f.1 == 0) ((s.d, r.d) ∷ ((s.a, r.a) ∷ ((s.b, r.b) ∷ ((s.target, r.target) ∷ ((not s.constant, last) ∷ []))))) ≡ spare w r
-spare_all w last r s e f = rw (e, f, and-true (not (shape r.op).constant || part w 28 4 == 0)) refl
 
 -- ---- classes
 
