@@ -3,6 +3,7 @@ ghost use Rattle.std.specs.Prelude.{◌≡◌, ◌≤◌, length};
 use rows::Row;
 
 // A source program as a file gives it: the first `vars` of the classes and the first `count` of the rows.
+// Its memory is fixed, for the compiler has no heap.
 #[derive(Clone, Copy)]
 pub struct Source {
     pub vars: usize,
