@@ -1,20 +1,19 @@
 use Rattle.std.proofs.Common.{◌+◌, arith}
 use Rattle.sets.specs.Sets.{has}
-use Rattle.sets.specs.Words.{members}
 use Rattle.facts.proofs.Walking.{passing_next}
 use Rattle.interference.proofs.Joining.{walked_none, walked_more, joined_past, joined_here}
 use Rattle.interference.proofs.join.Goals as goal
 
 pub loop-v-init : goal.loop-v-init
-loop-v-init c = walked_none c.args.d (members c.args.others) c.next-v.result c.args.edges.now c.next-v.ensures
+loop-v-init c = walked_none c.args.d (c.args.others) c.next-v.result c.args.edges.now c.next-v.ensures
 
 pub loop-v-preserved : goal.loop-v-preserved
 loop-v-preserved c =
-    walked_more c.args.d (members c.args.others) c.loop-v.v c.next-v-in-loop-v.result c.args.edges.now c.loop-v.edges c.with.result c.requires (omega arith) (omega arith) c.with.ensures c.next-v-in-loop-v.ensures (omega arith) c.loop-v.invariant
+    walked_more c.args.d (c.args.others) c.loop-v.v c.next-v-in-loop-v.result c.args.edges.now c.loop-v.edges c.with.result c.requires (omega arith) (omega arith) c.with.ensures c.next-v-in-loop-v.ensures (omega arith) c.loop-v.invariant
 
 pub loop-v-smaller : goal.loop-v-smaller
 loop-v-smaller c =
-    let n = passing_next (has (members c.args.others)) 448 (c.loop-v.v + 1) c.next-v-in-loop-v.result (omega arith) c.next-v-in-loop-v.ensures in
+    let n = passing_next (has (c.args.others)) 448 (c.loop-v.v + 1) c.next-v-in-loop-v.result (omega arith) c.next-v-in-loop-v.ensures in
     omega (arith, n.2)
 
 pub returns-then-d-edges : goal.returns-then-d-edges
