@@ -1,3 +1,3 @@
-mod Growing
+mod Noting
 mod Replacing
 mod Spilling

@@ -1,5 +1,5 @@
 -- The blocks and temporaries of rows, one row more.
-use Rattle.std.proofs.Common.{◌≡◌, ℕ, suc, ◌+◌, ◌≤◌, Bool, true, false, List, [], ◌∷◌, ◌++◌, map, length, refl, ap, ◌∙◌, inl, inr, add-zero, add_assoc, arith}
+use Rattle.std.proofs.Common.{◌≡◌, ℕ, suc, ◌+◌, ◌≤◌, Bool, true, false, List, [], ◌∷◌, ◌++◌, map, length, sym, refl, ap, ◌∙◌, inl, inr, add-zero, add_assoc, arith}
 use lib.ListN.{length-map}
 use Rattle.std.proofs.lemmas.List.{append_assoc, length-append, map-append, map_push}
 use Rattle.std.proofs.lemmas.Bool.{cases_Bool}
@@ -10,10 +10,10 @@ use Rattle.compiling.specs.declared.Place.{Place}
 use Rattle.compiling.specs.Working.{Working}
 use Rattle.compiling.specs.Blocks.{flat, assembled}
 use Rattle.compiling.specs.Spill.{Order}
-use Rattle.compiling.specs.Rewrite.{inner, spilled_of, replaced, block, blocks, all_replaced}
+use Rattle.compiling.specs.Rewrite.{inner, after, spilled_of, replaced, block, blocks, all_replaced}
 use Rattle.layout.proofs.Holding.{flat_push}
-use Rattle.rewriting.specs.Pages.{news, rows_for, news_for}
-use Rattle.rewriting.proofs.Growing.{news_few}
+use Rattle.rewriting.specs.Temporaries.{temporaries, noted, all_noted, rows_with}
+use Rattle.rewriting.proofs.Noting.{news, noted_few, after_is, loaded_is, stored_is, name_is, all_noted_is}
 
 spilled_append : (s : Order) (xs ys : List ℕ) → spilled_of s (xs ++ ys) ≡ spilled_of s xs ++ spilled_of s ys
 unfolding spilled_of
@@ -32,17 +32,21 @@ module _ (s : Order) (class : ℕ → ℕ) where
   unfolding block
   block_inner t r e = rw e
 
-  pub block_kept : (t : ℕ) (r : Row) → inner s r ≡ false → block s class t r ≡ rows_for s class t r
-  unfolding block rows_for
-  block_kept t r e = rw e
+  pub block_kept : (t : ℕ) (r : Row) → inner s r ≡ false → block s class t r ≡ rows_with (temporaries s class t r) r
+  unfolding block temporaries
+  block_kept t r e =
+      let sh = shape r.op in
+      let tb = after s sh.a r.a t in
+      let td = after s sh.b r.b tb in
+      rw (e, loaded_is s class r.weight sh.a r.a t, name_is s class sh.a r.a t, after_is s class sh.a r.a t, loaded_is s class r.weight sh.b r.b tb, name_is s class sh.b r.b tb, after_is s class sh.b r.b tb, stored_is s class r.weight sh.d r.d td, name_is s class sh.d r.d td)
 
   pub replaced_inner : (r : Row) → inner s r ≡ true → replaced s r ≡ []
   unfolding replaced
   replaced_inner r e = rw e
 
-  pub replaced_kept : (r : Row) → inner s r ≡ false → map class (replaced s r) ≡ news_for s class r
-  unfolding replaced news_for
-  replaced_kept r e =
+  pub replaced_kept : (t : ℕ) (r : Row) → inner s r ≡ false → map class (replaced s r) ≡ all_noted (temporaries s class t r)
+  unfolding replaced
+  replaced_kept t r e =
       let ra = only (shape r.op).a r.a in
       let rb = only (shape r.op).b r.b in
       let rd = only (shape r.op).d r.d in
@@ -51,20 +55,17 @@ module _ (s : Order) (class : ℕ → ℕ) where
       let nd = news s class (shape r.op).d r.d in
       let parts : map class (spilled_of s ((ra ++ rb) ++ rd)) ≡ (map class (spilled_of s ra) ++ map class (spilled_of s rb)) ++ map class (spilled_of s rd) = simp (spilled_append, map-append) in
       let each : (map class (spilled_of s ra) ++ map class (spilled_of s rb)) ++ map class (spilled_of s rd) ≡ (na ++ nb) ++ nd = rw (spilled_only s class (shape r.op).a r.a, spilled_only s class (shape r.op).b r.b, spilled_only s class (shape r.op).d r.d) refl in
-      rw e (parts ∙ each ∙ append_assoc na nb nd)
+      rw e (parts ∙ each ∙ append_assoc na nb nd ∙ sym (all_noted_is s class t r))
 
   pub replaced_few : (r : Row) → length (replaced s r) ≤ 3
-  unfolding news_for
   replaced_few r =
       elim (cases_Bool (inner s r)) [
         | inl e ↦ rw (replaced_inner r e) (omega arith)
         | inr e ↦
-            let sh = shape r.op in
-            let na = news s class sh.a r.a in
-            let nb = news s class sh.b r.b in
-            let nd = news s class sh.d r.d in
-            let n : length (map class (replaced s r)) ≡ length na + (length nb + length nd) = ap length (replaced_kept r e) ∙ length-append na (nb ++ nd) ∙ ap (λ k. length na + k) (length-append nb nd) in
-            omega (arith, n, length-map (replaced s r) class, news_few s class sh.a r.a, news_few s class sh.b r.b, news_few s class sh.d r.d)
+            let t = temporaries s class 0 r in
+            let n : length (map class (replaced s r)) ≡ length (noted t.a) + (length (noted t.b) + length (noted t.d)) =
+            ap length (replaced_kept 0 r e) ∙ length-append (noted t.a) (noted t.b ++ noted t.d) ∙ ap (λ k. length (noted t.a) + k) (length-append (noted t.b) (noted t.d)) in
+            omega (arith, n, length-map (replaced s r) class, noted_few t.a, noted_few t.b, noted_few t.d)
       ]
 
   pub all_push : (rs : List Row) (r : Row) → all_replaced s (rs ++ r ∷ []) ≡ all_replaced s rs ++ replaced s r

@@ -1,13 +1,14 @@
-ghost use Rattle.std.specs.Prelude.{◌≡◌, length};
+ghost use Rattle.std.specs.Prelude.{◌≤◌, length};
 
 use layout::blocks::Layout;
+use layout::few::Few;
 
 // A program while it is rewritten: its blocks, and the classes of variables and temporaries as far as there is room.
 // `next` is the number of the next temporary.
-#[derive(Clone, Copy)]
+#[derive(Drop)]
 pub struct Page {
     pub layout: Layout,
     pub next: u16,
-    pub classes: [u8; 448],
-    ghost whole: { length classes ≡ 448 },
+    pub classes: Few<u8, 448>,
+    ghost few: { length classes ≤ 448 },
 }

@@ -10,7 +10,7 @@ unfolding placed
 returns c o s m =
     let d = c.args.draft.now in
     let end = c.args.end.now in
-    let slots = c.slots_of.result in
-    let order = order_shown d end o s m (members c.variables_in.result) (take d.source.vars slots) c.variables_in.ensures c.slots_of.ensures.front in
+    let slots = c.slots.result in
+    let order = order_shown d end o s m (members c.variables_in.result) (take d.source.vars slots) c.variables_in.ensures c.slots.ensures in
     ticket_same _ (spill_order (working_of d) o) _ (slots_after (working_of d) o) _ (places_spilled (working_of d) o) order (c.slot_below.ensures ∙ given_shown d end o s m)
     (places_shown d end o s m (members c.variables_in.result) (members c.variables_in-2.result) slots order c.variables_in-2.ensures)

@@ -1,7 +1,0 @@
-use Rattle.std.proofs.Common.{◌≡◌, map, length, take}
-use Rattle.counting.specs.Counting.{range}
-use Rattle.rewriting.specs.Pages.{place_spilled}
-use Rattle.rewriting.proofs.places_of.Given as goal
-
-abbrev pub invariant-loop-v : goal.invariant-loop-v
-invariant-loop-v l = (take l.v l.places ≡ map (place_spilled l.draft l.token l.round) (range l.v 0)) × (length l.places ≡ 64)

@@ -1,7 +1,0 @@
-use Rattle.std.proofs.Common.{◌≡◌, map, length, take}
-use Rattle.counting.specs.Counting.{range}
-use Rattle.rewriting.specs.Orders.{node_in, slot_below}
-use Rattle.rewriting.proofs.slots_of.Given as goal
-
-abbrev pub invariant-loop-v : goal.invariant-loop-v
-invariant-loop-v l = (take l.v l.slots ≡ map (λ v. slot_below l.draft l.end (node_in l.draft l.end v)) (range l.v 0)) × (length l.slots ≡ 64)
