@@ -1,7 +1,8 @@
 #![tactic(auto)]
 
-ghost use Rattle.std.specs.Prelude.{◌≡◌, ℕ, ◌<◌, ◌≤◌, not, ◌&&◌, length, take, if◌then◌else◌, nat_eq, nat_lt};
-ghost use Rattle.counting.specs.Counting.{any, least};
+ghost use Rattle.std.specs.Prelude.{◌≡◌, ℕ, ◌<◌, ◌≤◌, not, ◌&&◌, length, take, if◌then◌else◌, nat_eq, nat_lt, find};
+ghost use Rattle.std.specs.List.{range_with_len};
+ghost use Rattle.counting.specs.Counting.{any};
 ghost use Rattle.sets.specs.Sets.{has};
 ghost use Rattle.sets.specs.Words.{members, sets_of};
 ghost use Rattle.rounds.specs.Interference.{Graph};
@@ -21,46 +22,50 @@ fn are_apart(a: NodeSet, b: NodeSet) -> bool
     a.meet(b).is_empty()
 }
 
-// The lowest register of a class without an occupant among the neighbours, or the number of registers.
-fn lowest_vacant<F: RegisterFile>(
-    file: &F,
-    class: u8,
-    neighbours: NodeSet,
-    occupants: &[NodeSet],
-) -> usize
-    requires { 64 ≤ length occupants.now }
-    ensures { result ≡ least (vacant (F.RegisterFile.model file.now) occupants.now class (members neighbours)) (F.RegisterFile.model file.now).count }
-{
-    let count = file.registers();
-    for r in 0..count {
-        if file.belongs(r, class) && are_apart(neighbours, occupants[r]) {
-            return r;
-        }
-    }
-    count
-}
-
 // A set with v, or without it.
 fn placed(set: NodeSet, v: usize, inside: bool) -> NodeSet
     ensures { (k : ℕ) → k < 448 → has (members result) k ≡ (if nat_eq v k then inside else has (members set) k) }
 {
-    if inside {
-        return set.with(v);
-    }
-    set.without(v)
+    if inside { set.with(v) } else { set.without(v) }
 }
 
-// Node v takes register s: it becomes an occupant of every register that overlaps s, and of no other.
-fn settle<F: RegisterFile>(file: &F, occupants: &mut [NodeSet], v: usize, s: usize)
-    requires { 64 ≤ length occupants.old }
-    ensures { Settled (F.RegisterFile.model file.now) v s occupants.old occupants.new }
-{
-    for r in 0..file.registers() {
-        occupants[r] = placed(occupants[r], v, file.overlaps(r, s));
+// For each register of a file its occupants: the nodes whose register overlaps it.
+#[derive(Drop)]
+struct Occupants<'a, F> {
+    file: &'a F,
+    sets: [NodeSet; 64],
+}
+
+impl<'a, F: RegisterFile> Occupants<'a, F> {
+    // Whether register r is of a class and has no occupant among the neighbours.
+    fn is_vacant(&self, r: usize, class: u8, neighbours: NodeSet) -> bool
+        ensures { result ≡ vacant (F.RegisterFile.model self.now.file.now) self.now.sets class (members neighbours) r }
+    {
+        let occupants = self.sets.get(r).copied().unwrap_or(NodeSet::EMPTY);
+        self.file.belongs(r, class) && are_apart(neighbours, occupants)
+    }
+
+    // The lowest vacant register.
+    fn lowest_vacant(&self, class: u8, neighbours: NodeSet) -> Option<usize>
+        ensures { result ≡ find (vacant (F.RegisterFile.model self.now.file.now) self.now.sets class (members neighbours)) (range_with_len 0 (F.RegisterFile.model self.now.file.now).count) }
+    {
+        (0..self.file.registers()).find(|&r| self.is_vacant(r, class, neighbours))
+    }
+
+    // Node v takes register s: it becomes an occupant of every register that overlaps s, and of no other.
+    fn settle(&mut self, v: usize, s: usize)
+        ensures settled { Settled (F.RegisterFile.model self.old.file.now) v s self.old.sets self.new.sets }
+        ensures file { self.new.file ≡ self.old.file }
+    {
+        let file = self.file;
+        for (r, set) in self.sets[..F::R].iter_mut().enumerate() {
+            *set = placed(*set, v, file.overlaps(r, s));
+        }
     }
 }
 
-// The register of each node when all have returned, the last one removed first; the number of registers stands for none.
+// The register of each node when all have returned, the last one removed first. The number of
+// registers stands for none, as in the definition `selected`: the rows and the record keep it so.
 pub fn select<F: RegisterFile>(
     file: &F,
     classes: &[u8],
@@ -69,15 +74,19 @@ pub fn select<F: RegisterFile>(
 ) -> [u8; 448]
     ensures { length classes.now ≤ 448 → (g : Graph) → g.classes ≡ classes.now → g.edges ≡ sets_of edges.now → take (length classes.now) result ≡ selected (F.RegisterFile.model file.now) g order.now }
 {
-    let none = file.registers() as u8;
-    let mut registers = [none; 448];
-    let mut occupants = [NodeSet::EMPTY; 64];
-    for i in (0..order.len()).rev() {
-        let v = order[i].node as usize;
+    let none = file.registers();
+    let mut registers = [none as u8; 448];
+    let mut occupants = Occupants {
+        file,
+        sets: [NodeSet::EMPTY; 64],
+    };
+    for removed in order.iter().rev() {
+        let v = removed.node as usize;
         if v < 448 && v < classes.len() {
-            let s = lowest_vacant(file, classes[v], beside(edges, v), &occupants);
+            let vacant = occupants.lowest_vacant(classes[v], beside(edges, v));
+            let s = vacant.unwrap_or(none);
             registers[v] = s as u8;
-            settle(file, &mut occupants, v, s);
+            occupants.settle(v, s);
         }
     }
     registers
@@ -89,8 +98,8 @@ pub fn spilled<F: RegisterFile>(file: &F, nodes: NodeSet, registers: &[u8]) -> N
 {
     let count = file.registers();
     let mut without = NodeSet::empty();
-    for v in 0..registers.len() {
-        if nodes.contains(v) && registers[v] as usize >= count {
+    for (v, &r) in registers.iter().enumerate() {
+        if nodes.contains(v) && r as usize >= count {
             without = without.with(v);
         }
     }
@@ -102,8 +111,7 @@ pub fn hoped(order: &[Removed]) -> NodeSet
     ensures { (v : ℕ) → v < 448 → has (members result) v ≡ hoped_for order.now v }
 {
     let mut set = NodeSet::empty();
-    for i in (0..order.len()).rev() {
-        let removed = order[i];
+    for removed in order.iter().rev() {
         set = placed(set, removed.node as usize, removed.hoped);
     }
     set

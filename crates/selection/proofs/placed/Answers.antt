@@ -8,6 +8,6 @@ pub returns-then-inside : goal.returns-then-inside
 returns-then-inside c = λ k h.
     ap (λ (n : ℕ). has n k) c.with.ensures ∙ with_has (members c.args.set) c.args.v k h ∙ ap (λ b. cond (eqb c.args.v k) b (has (members c.args.set) k)) (sym c.if-inside.true)
 
-pub returns : goal.returns
-returns c = λ k h.
+pub returns-else-inside : goal.returns-else-inside
+returns-else-inside c = λ k h.
     ap (λ (n : ℕ). has n k) c.without.ensures ∙ without_has (members c.args.set) c.args.v k h ∙ ap (λ b. cond (eqb c.args.v k) b (has (members c.args.set) k)) (sym c.if-inside.false)

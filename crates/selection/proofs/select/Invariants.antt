@@ -1,15 +1,17 @@
-use Rattle.std.proofs.Common.{◌≡◌, ◌≤◌, length, take, drop}
+use Rattle.std.proofs.Common.{◌≡◌, ◌≤◌, length, take, map, reverse}
 use Rattle.sets.specs.Words.{sets_of}
 use Rattle.rounds.specs.Interference.{Graph}
 use Rattle.rounds.specs.Select.{selected}
 use Rattle.selection.specs.Occupants.{Occupied}
 use Rattle.selection.proofs.select.Given as goal
 
-abbrev pub invariant-loop-i : goal.invariant-loop-i
-invariant-loop-i g l =
+abbrev pub invariant-loop-removed : goal.invariant-loop-removed
+invariant-loop-removed g l =
     let m = g.F.RegisterFile.model l.file in
     let n = length l.classes in
-    (n ≤ 448 → (graph : Graph) → graph.classes ≡ l.classes → graph.edges ≡ sets_of l.edges → take n l.registers ≡ selected m graph (drop l.i l.order))
-    × (n ≤ 448 → Occupied m (take n l.registers) l.occupants)
-    × (length l.registers ≡ 448)
-    × (length l.occupants ≡ 64)
+    record {
+      file : l.occupants.file.now ≡ l.file;
+      sized : length l.registers ≡ 448;
+      taken : n ≤ 448 → (graph : Graph) → graph.classes ≡ l.classes → graph.edges ≡ sets_of l.edges → take n l.registers ≡ selected m graph (reverse (map (λ r. r.now) l.yielded));
+      held : n ≤ 448 → Occupied m (take n l.registers) l.occupants.sets;
+    }

@@ -7,7 +7,7 @@ use Rattle.rounds.specs.Select.{register_of}
 use Rattle.rounds.specs.Round.{those}
 use Rattle.selection.proofs.Selecting.{those_yes, those_no}
 use Rattle.selection.proofs.spilled.Goals as goal
-use Rattle.selection.proofs.spilled.Goals.{then-contains+then-registers-v, else-contains, else-contains-via-then-contains+else-registers-v, else-contains-via-else-contains}
+use Rattle.selection.proofs.spilled.Goals.{then-contains+then-r-count, else-contains, else-contains-via-then-contains+else-r-count, else-contains-via-else-contains}
 
 pub loop-v-init : goal.loop-v-init
 unfolding joined those
@@ -21,7 +21,7 @@ loop-v-preserved g c = λ few.
     let t : ℕ → Bool = λ v. has nodes v && not (ltb (register_of m c.args.registers.now v) m.count) in
     let read : register_of m c.args.registers.now v ≡ get_or c.args.registers.now v 0 = get_or_default c.args.registers.now v m.count 0 (omega arith) in
     elim c.if-contains.branch [
-      | then-contains+then-registers-v w ↦
+      | then-contains+then-r-count w ↦
           let hit : t v ≡ true =
           and_from (has nodes v) (not (ltb (register_of m c.args.registers.now v) m.count)) (sym {b = has nodes v} w.if-contains.ensures)
           (ap not (le-ltb (register_of m c.args.registers.now v) m.count (omega (arith, read, c.registers-count.ensures)))) in
@@ -29,7 +29,7 @@ loop-v-preserved g c = λ few.
           those_yes t v (members c.loop-v.without) (members c.if-contains.without) hit (c.loop-v.invariant few) more
       | else-contains w ↦
           let miss : t v ≡ false = elim w.else-contains.branch [
-            | else-contains-via-then-contains+else-registers-v w' ↦
+            | else-contains-via-then-contains+else-r-count w' ↦
                 and_right (has nodes v) (not (ltb (register_of m c.args.registers.now v) m.count))
                 (ap not (lt-ltb (register_of m c.args.registers.now v) m.count (omega (arith, read, c.registers-count.ensures))))
             | else-contains-via-else-contains w' ↦ and_left (has nodes v) (not (ltb (register_of m c.args.registers.now v) m.count)) (sym {b = has nodes v} w'.if-contains.ensures)
