@@ -34,8 +34,8 @@ CodeRows rows = (1 ≤ length rows) × (length rows ≤ 512) × Inside rows × C
 known : (c : Compiled) → ∥ Playable c ∥₁ → Playable c
 known c h = ∥∥₁_elim h (playable_prop c) (λ p. p)
 
-pub source_rows_lem : (c : Compiled) → ∥ Playable c ∥₁ → SourceRows c.source.rows
-source_rows_lem c h = let p = known c h in (p.some, omega (arith, p.most), p.inside, p.classed, p.named)
+pub source_keeps : (c : Compiled) → ∥ Playable c ∥₁ → SourceRows c.source.rows
+source_keeps c h = let p = known c h in (p.some, omega (arith, p.most), p.inside, p.classed, p.named)
 
-pub code_rows_lem : (c : Compiled) → ∥ Playable c ∥₁ → CodeRows c.rows
-code_rows_lem c h = let p = known c h in (p.code_some, p.code_most, p.code_inside, p.code_classed)
+pub code_keeps : (c : Compiled) → ∥ Playable c ∥₁ → CodeRows c.rows
+code_keeps c h = let p = known c h in (p.code_some, p.code_most, p.code_inside, p.code_classed)

@@ -1,8 +1,8 @@
 -- Lists of numbers behind variables, slots, inputs and outputs.
-use Rattle.std.proofs.Common.{◌≡◌, ℕ, ◌+◌, ◌-◌, ◌%◌, ◌^◌, ◌<◌, ◌≤◌, List, [], ◌∷◌, ◌++◌, length, get_or, take, drop, set, replicate, sym, ap, ◌∙◌, subst, inl, inr, mod-eq_of_lt, arith, pow_mono}
+use Rattle.std.proofs.Common.{◌≡◌, ℕ, ◌+◌, ◌-◌, ◌%◌, ◌^◌, ◌<◌, ◌≤◌, List, length, set, replicate, ap, subst, inl, inr, mod-eq_of_lt, arith, pow_mono}
 use mathlib.Core.Path.{fun_ext}
 use lib.Pow.{mod-mod-pow}
-use Rattle.std.proofs.lemmas.List.{get_or-set_same, get_or-set_other, get_or-take, get_or_past, get_or-replicate, length-replicate, length-take-le, set_past, drop_more, drop_all, take_more, take_more_set, take_all}
+use Rattle.std.proofs.lemmas.List.{get_or-set_same, get_or-set_other, get_or_past, get_or-replicate, length-replicate, set_past}
 use Rattle.std.proofs.lemmas.Bool.{cases_eq, cases_lt, eq-eqb, ne_eqb, lt-ltb, le-ltb}
 use Rattle.rows.specs.Rows.{bits}
 use Rattle.machine.specs.Machine.{put, stored}
@@ -27,14 +27,6 @@ zeros = fun_ext (λ j. elim (cases_lt j 64) [
   | inr l ↦ get_or_past (replicate {A = ℕ} 64 0) j 0 (rw (length-replicate {A = ℕ} 64 0) l)
 ])
 
--- the input that is left begins with the next number
-pub next_left : (xs : List ℕ) (n i : ℕ) → n ≤ length xs → i < n → drop i (take n xs) ≡ get_or xs i 0 ∷ drop (i + 1) (take n xs)
-next_left xs n i h l =
-    drop_more (take n xs) i 0 (rw (length-take-le n xs h) l) ∙ ap (λ (y : ℕ). y ∷ drop (i + 1) (take n xs)) (get_or-take n xs i 0 l)
-
-pub none_left : (xs : List ℕ) (n i : ℕ) → n ≤ length xs → n ≤ i → drop i (take n xs) ≡ []
-none_left xs n i h l = drop_all i (take n xs) (rw (length-take-le n xs h) l)
-
 -- a number of 32 bits is whole in a class of word or above
 pub whole : (x class : ℕ) → x < 2 ^ 32 → 2 ≤ class → x % 2 ^ bits class ≡ x
 whole x class h l =
@@ -50,11 +42,3 @@ twice x class h =
     let b : bits class ≤ 32 = omega arith in
     let e : (32 - bits class) + bits class ≡ 32 = omega arith in
     subst (λ (k : ℕ). x % 2 ^ k % 2 ^ bits class ≡ x % 2 ^ bits class) e (mod-mod-pow x (32 - bits class) (bits class))
-
--- one more element of a list copied
-pub copied_more : {A : Type 0} (xs ys : List A) (i : ℕ) (d : A) → i < length xs → i < length ys → take i ys ≡ take i xs → take (i + 1) (set ys i (get_or xs i d)) ≡ take (i + 1) xs
-copied_more xs ys i d l r e =
-    take_more_set ys i (get_or xs i d) r ∙ ap (λ zs. zs ++ (get_or xs i d ∷ [])) e ∙ sym (take_more xs i d l)
-
-pub copied_all : {A : Type 0} (xs ys : List A) (i : ℕ) → i ≡ length xs → take i ys ≡ take i xs → take (length xs) ys ≡ xs
-copied_all xs ys i n e = (rw n at e) ∙ take_all (length xs) xs (omega arith)

@@ -1,13 +1,13 @@
 -- Rows of both players, one by one.
 use Rattle.std.proofs.Common.{◌≡◌, ℕ, zero, suc, ◌+◌, ◌-◌, ◌<◌, Bool, true, false, cond, ◌&&◌, ◌⊎◌, List, length, set, Some, None, Option, sym, refl, ap, ◌∙◌, subst, inl, inr, add-zero, arith}
 use Rattle.std.proofs.lemmas.List.{nil_from_length}
-use Rattle.std.proofs.lemmas.Bool.{cond-true, cond-false, eq-eqb, ne_eqb, and_parts}
+use Rattle.std.proofs.lemmas.Bool.{cond-true, cond-false, and_parts}
 use Rattle.rows.specs.declared.Row.{Row}
 use Rattle.rows.specs.Rows.{shape, row_at}
 use Rattle.registers.specs.Model.{Model}
 use Rattle.machine.specs.declared.Outcome.{Outcome}
 use Rattle.machine.specs.Machine.{is_running, put, Shared, Effect, effect}
-use Rattle.machine.specs.Players.{Player, running, at, writes_now, next_row, stepped, run, rows_played, Steps, Runs}
+use Rattle.machine.specs.Players.{Player, running, at, writes_now, next_row, stepped, run, rows_played, Runs}
 use Rattle.players.specs.declared.Player.{Player as Turning}
 use Rattle.players.specs.declared.SourcePlayer.{SourcePlayer}
 use Rattle.players.specs.declared.CodePlayer.{CodePlayer}

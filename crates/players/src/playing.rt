@@ -22,7 +22,7 @@ pub fn number_at(numbers: &[u32], i: usize) -> u32
     numbers.get(i).copied().unwrap_or(0)
 }
 
-// Past the last place nothing is put.
+// Past the last place nothing is put. An index after a test, for `get_mut` tells nothing of what the slice ends as.
 fn put(numbers: &mut [u32], i: usize, x: u32)
     ensures { numbers.new ≡ slice_set numbers.old i x }
 {
@@ -49,7 +49,8 @@ fn jumps(op: Op, x: u32, y: u32) -> bool
     shape.target && (!shape.falls || x < y)
 }
 
-// A player that plays row after row.
+// A player that plays row after row. Each has a step of its own: what variables take is exact, and starts at 0, while a bank
+// keeps its registers, and a write there may change those that overlap; one step for both would be no shorter.
 trait Steps {
     ghost outcome: { Self → How };
 

@@ -16,7 +16,7 @@ pub fn write_restarted(count: u32, input: &[u32], out: &mut Vec<u8>) -> Result<(
     Ok(())
 }
 
-// Adds the answer to a play that was served; `call` is its name.
+// Adds the answer to a play that was served; `call` is its name, `outcome` the number of the outcome.
 pub fn write_played(
     call: &[u8],
     asked: u32,

@@ -4,8 +4,5 @@ use Rattle.players.specs.Playing.{numbers_in}
 use Rattle.players.proofs.Numbers.{zeros}
 use Rattle.players.proofs.SourcePlayer.on.Goals as goal
 
-pub returns : goal.returns
-returns c = record {
-  rows = c.on.ensures.rows;
-  starts = c.on.ensures.starts (numbers_in (replicate {A = ℕ} 64 0)) (λ _. 0) ∙ ap (λ f. fresh f (λ _. 0) []) zeros;
-}
+pub returns-clause-starts : goal.returns-clause-starts
+returns-clause-starts c = c.on.ensures.starts (numbers_in (replicate {A = ℕ} 64 0)) (λ _. 0) ∙ ap (λ f. fresh f (λ _. 0) []) zeros

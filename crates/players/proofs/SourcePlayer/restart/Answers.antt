@@ -4,8 +4,5 @@ use Rattle.players.specs.Playing.{numbers_in, input_of}
 use Rattle.players.proofs.Numbers.{zeros}
 use Rattle.players.proofs.SourcePlayer.restart.Goals as goal
 
-pub returns : goal.returns
-returns c = record {
-  rows = c.restart.ensures.rows;
-  starts = c.restart.ensures.starts (numbers_in (replicate {A = ℕ} 64 0)) (λ _. 0) ∙ ap (λ f. fresh f (λ _. 0) (input_of c.args.input)) zeros;
-}
+pub returns-clause-starts : goal.returns-clause-starts
+returns-clause-starts c = c.restart.ensures.starts (numbers_in (replicate {A = ℕ} 64 0)) (λ _. 0) ∙ ap (λ f. fresh f (λ _. 0) (input_of c.args.input)) zeros
