@@ -1,10 +1,6 @@
-use Rattle.std.proofs.Common.{◌≡◌, ◌≤◌, drop, vec_items}
-use Rattle.hexwords.proofs.Spelling.{onto}
-use Rattle.numerals.specs.Numerals.{items_in, numbers_of}
-use Rattle.numerals.proofs.Items.{glued, part}
+use Rattle.std.proofs.Common.{◌≡◌, ◌+◌, ◌-◌, ◌*◌, ◌^◌, ◌&&◌, IfOk, if◌then◌else◌, Some, None, nat_lt, option_map, ℕ, ◌<◌, ◌≤◌, length}
+use Rattle.numerals.specs.Numerals.{is_digit, number_in, items_in, numbers_of, numbers_in}
 use Rattle.numerals.proofs.read_items.Given as goal
 
-abbrev pub invariant-loop-i : goal.invariant-loop-i
-invariant-loop-i l =
-    (l.start ≤ l.i)
-    × (onto (vec_items l.numbers) (numbers_of (glued (part l.word l.start l.i) (items_in (drop l.i l.word)))) ≡ numbers_of (items_in l.word))
+abbrev pub invariant-loop-item : goal.invariant-loop-item
+invariant-loop-item l = ?
