@@ -28,10 +28,7 @@ pub fn number(word: &[u8]) -> Option<u32>
 }
 
 // The numbers between the commas of a word, in the room of `numbers`, if each is one.
-fn read_items<'a>(
-    word: &[u8],
-    numbers: &'a mut Vec<u32>,
-) -> Result<Option<&'a [u32]>, AllocError>
+fn read_items<'a>(word: &[u8], numbers: &'a mut Vec<u32>) -> Result<Option<&'a [u32]>, AllocError>
     ensures { IfOk result (λ all. option_map (λ n. n.now) all ≡ numbers_of (items_in word.now)) }
 {
     numbers.clear();
