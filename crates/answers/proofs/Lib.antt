@@ -1,2 +1,1 @@
 mod Judged
-mod Lines

@@ -1,10 +1,9 @@
 -- What is answered to a file, as a line of words.
 use Rattle.std.specs.Prelude.{ℕ, cond, List, [], ◌∷◌, ◌++◌, length, replicate, Some, None, Ok, Err, codes, decimal, Option, Result, ◌==◌}
 use Rattle.sets.specs.Words.{empty_set}
-use Rattle.faults.specs.declared.Layer.{Layer}
-use Rattle.faults.specs.declared.Layer.TheVariants.{Bits, Rows, Program as Whole, Player}
 use Rattle.faults.specs.declared.ProgramFault.{ProgramFault}
-use Rattle.faults.specs.Refusals.{program_refusal}
+use Rattle.faults.specs.declared.Refusal.{Refusal}
+use Rattle.faults.specs.Refusals.{program_refusal, refusal_text}
 use Rattle.rows.specs.Rows.{Program}
 use Rattle.admission.specs.Admission.{admitting}
 use Rattle.registers.specs.Model.{Model}
@@ -17,30 +16,26 @@ use Rattle.hexwords.specs.Hex.{first_word, after_word, file_of}
 use Rattle.answers.specs.declared.Chip.{Chip}
 use Rattle.answers.specs.declared.Chip.TheVariants.{Nested, Paired}
 use Rattle.answers.specs.declared.Memory.{Memory}
-use Rattle.answers.specs.declared.Verdict.{Verdict}
-use Rattle.answers.specs.declared.Verdict.TheVariants.{Admitted, Refused}
-
--- the name of a layer
-abbrev pub layer_name : Layer → List ℕ
-layer_name Bits = codes "bits"
-layer_name Rows = codes "rows"
-layer_name Whole = codes "program"
-layer_name Player = codes "player"
+use Rattle.answers.specs.declared.Size.{Size}
 
 -- ---- admit lines
 
+-- the numbers of variables and rows
+abbrev pub size_text : Size → List ℕ
+size_text s = decimal s.vars ++ (codes " " ++ decimal s.rows)
+
 -- the words of a verdict
-abbrev pub verdict_text : Verdict → List ℕ
-verdict_text (Admitted v n) = codes "admitted " ++ (decimal v ++ (codes " " ++ decimal n))
-verdict_text (Refused r) = codes "refused " ++ (decimal r.number ++ (codes " " ++ (decimal r.place ++ (codes " " ++ layer_name r.layer))))
+abbrev pub verdict_text : Result Size Refusal → List ℕ
+verdict_text (Ok s) = codes "admitted " ++ size_text s
+verdict_text (Err r) = codes "refused " ++ refusal_text r
 
 -- the verdict on a file, from its program or its first fault
-abbrev pub verdict_of : Result Program ProgramFault → Verdict
-verdict_of (Ok p) = Admitted p.vars (length p.rows)
-verdict_of (Err e) = Refused (program_refusal e)
+abbrev pub verdict_of : Result Program ProgramFault → Result Size Refusal
+verdict_of (Ok p) = Ok (record { vars = p.vars; rows = length p.rows })
+verdict_of (Err e) = Err (program_refusal e)
 
 -- the line that answers the word of a file
-abbrev pub answer_line : List ℕ → Verdict → List ℕ
+abbrev pub answer_line : List ℕ → Result Size Refusal → List ℕ
 answer_line word v = word ++ (codes " " ++ (verdict_text v ++ 10 ∷ []))
 
 -- the line that answers the file of a word
@@ -82,7 +77,7 @@ code_text c = compiled_text c.rounds c.slots c.places c.rows
 -- the words by which compile is answered
 abbrev pub compile_text : Result Compiled ProgramFault → List ℕ
 compile_text (Ok c) = code_text c
-compile_text (Err e) = verdict_text (Refused (program_refusal e))
+compile_text (Err e) = verdict_text (Err (program_refusal e))
 
 -- the line that answers the word of a file and a chip
 abbrev pub compile_line : List ℕ → Chip → Result Compiled ProgramFault → List ℕ

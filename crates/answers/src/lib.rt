@@ -1,15 +1,16 @@
 #![tactic(auto)]
 
 ghost use Rattle.std.specs.Prelude.{◌≡◌, [], ◌∷◌, ◌++◌, Some, Err, codes, OnOk};
+ghost use Rattle.std.specs.Result.{result_ok};
 ghost use Rattle.faults.specs.declared.ProgramFault.{ProgramFault as AnyFault};
 ghost use Rattle.admission.specs.Admission.{admitting};
 ghost use Rattle.compiling.specs.Compile.{compile};
 ghost use Rattle.stages.specs.Stages.{holding, program_in, compiled_in};
-ghost use Rattle.answers.specs.Answers.{layer_name as layer_name_of, verdict_text, verdict_of, answer_line, chip_file, chip_name as chip_name_of, chip_word, chip_of, code_text, compile_line, answer_to, reply_to, empty_memory};
+ghost use Rattle.answers.specs.Answers.{size_text, verdict_text, verdict_of, answer_line, chip_file, chip_name, chip_word, chip_of, code_text, answer_to, reply_to, empty_memory};
 
 use chips::nested::Nested;
 use chips::paired::Paired;
-use faults::{Layer, ProgramFault, Refusal};
+use faults::{ProgramFault, Refusal};
 use hexwords::{first_word, read_file, split_word};
 use printing::write_compiled;
 use registers::RegisterFile;
@@ -19,73 +20,63 @@ use stages::{admit, compile};
 use std::alloc::{AllocError, Global};
 use std::fmt;
 
-pub fn layer_name(layer: Layer) -> &'static str
-    ensures { result.now ≡ layer_name_of layer }
-{
-    match layer {
-        Layer::Bits => "bits",
-        Layer::Rows => "rows",
-        Layer::Program => "program",
-        Layer::Player => "player",
+// How many variables and rows a program has.
+#[derive(Clone, Copy, Debug, PartialEq, Eq)]
+pub struct Size {
+    pub vars: usize,
+    pub rows: usize,
+}
+
+impl fmt::Display for Size {
+    ghost output = { λ size. Some (size_text size) };
+
+    fn fmt<W: fmt::Write>(&self, f: &mut fmt::Formatter<W>) -> fmt::Result {
+        let Size { vars, rows } = *self;
+        write!(f, "{vars} {rows}")
     }
 }
 
-// What is said of a file: how many variables and rows its program has, or why there is none.
-#[derive(Clone, Copy)]
-pub enum Verdict {
-    Admitted(usize, usize),
-    Refused(Refusal),
+// The chips that programs are compiled for, by their numbers.
+#[derive(Clone, Copy, Debug, PartialEq, Eq)]
+pub enum Chip {
+    Nested = 0,
+    Paired = 1,
 }
 
-impl fmt::Display for Verdict {
-    ghost output = { λ v. Some (verdict_text v) };
+// Told of a word that is no chip's number.
+#[derive(Clone, Copy, Debug, PartialEq, Eq)]
+pub struct NoChip;
 
-    fn fmt<W: fmt::Write>(&self, f: &mut fmt::Formatter<W>) -> fmt::Result {
-        match *self {
-            Verdict::Admitted(vars, rows) => write!(f, "admitted {vars} {rows}"),
-            Verdict::Refused(refusal) => {
-                let number = refusal.number;
-                let place = refusal.place;
-                let layer = layer_name(refusal.layer);
-                write!(f, "refused {number} {place} {layer}")
-            }
+impl TryFrom<&[u8]> for Chip {
+    type Error = NoChip;
+
+    ghost try_from_gives = { λ word chip. result_ok chip ≡ chip_of word.now };
+
+    fn try_from(word: &[u8]) -> Result<Chip, NoChip> {
+        match word {
+            [b'0'] => Ok(Chip::Nested),
+            [b'1'] => Ok(Chip::Paired),
+            _ => Err(NoChip),
         }
     }
 }
 
-// The chips that programs are compiled for.
-#[derive(Clone, Copy)]
-pub enum Chip {
-    Nested,
-    Paired,
-}
+impl fmt::Display for Chip {
+    ghost output = { λ chip. Some (chip_name chip) };
 
-// The chip that a word names by its number.
-pub fn chip_named(word: &[u8]) -> Option<Chip>
-    ensures { result ≡ chip_of word.now }
-{
-    match word {
-        [b'0'] => Some(Chip::Nested),
-        [b'1'] => Some(Chip::Paired),
-        _ => None,
+    fn fmt<W: fmt::Write>(&self, f: &mut fmt::Formatter<W>) -> fmt::Result {
+        f.write_str(match self {
+            Chip::Nested => "nested",
+            Chip::Paired => "paired",
+        })
     }
 }
 
-pub fn chip_name(chip: Chip) -> &'static str
-    ensures { result.now ≡ chip_name_of chip }
-{
-    match chip {
-        Chip::Nested => "nested",
-        Chip::Paired => "paired",
-    }
-}
-
-fn chip_digit(chip: Chip) -> u8
-    ensures { result ∷ [] ≡ chip_word chip }
-{
-    match chip {
-        Chip::Nested => b'0',
-        Chip::Paired => b'1',
+impl Chip {
+    fn digit(self) -> u8
+        ensures { result ∷ [] ≡ chip_word self }
+    {
+        b'0' + self as u8
     }
 }
 
@@ -141,39 +132,47 @@ impl Memory {
             &mut self.hard,
         )
     }
-}
 
-// The verdict on a file; the program is that of the file if it is admitted.
-pub fn judge(program: &mut Admitted, memory: &mut Memory, file: &[u8]) -> Verdict
-    ensures { result ≡ verdict_of (admitting file.now) }
-{
-    match memory.admit(program, file) {
-        Ok(()) => Verdict::Admitted(program.vars(), program.count()),
-        Err(fault) => Verdict::Refused(fault.refusal()),
+    // The verdict on a file; the program is that of the file if it is admitted.
+    pub fn judge(&mut self, program: &mut Admitted, file: &[u8]) -> Result<Size, Refusal>
+        ensures { result ≡ verdict_of (admitting file.now) }
+    {
+        self.admit(program, file)?;
+        Ok(Size {
+            vars: program.vars(),
+            rows: program.count(),
+        })
     }
-}
 
-// Compiles a file for one of the chips.
-pub fn compile_for(
-    chip: Chip,
-    program: &mut Compiled,
-    memory: &mut Memory,
-    file: &[u8],
-) -> Result<(), ProgramFault>
-    ensures compiled { holding result (compiled_in program.new.record.now) ≡ compile (chip_file chip) file.now }
-    ensures refused { (e : AnyFault) → result ≡ Err e → program.new.record.now ≡ program.old.record.now }
-{
-    match chip {
-        Chip::Nested => memory.compile(program, &Nested::with_bits(0), file),
-        Chip::Paired => memory.compile(program, &Paired::with_bits(0), file),
+    // Compiles a file for one of the chips.
+    pub fn compile_for(
+        &mut self,
+        program: &mut Compiled,
+        chip: Chip,
+        file: &[u8],
+    ) -> Result<(), ProgramFault>
+        ensures compiled { holding result (compiled_in program.new.record.now) ≡ compile (chip_file chip) file.now }
+        ensures refused { (e : AnyFault) → result ≡ Err e → program.new.record.now ≡ program.old.record.now }
+    {
+        match chip {
+            Chip::Nested => self.compile(program, &Nested::with_bits(0), file),
+            Chip::Paired => self.compile(program, &Paired::with_bits(0), file),
+        }
     }
 }
 
 // Adds a verdict behind a space, and ends the line.
-fn write_verdict(heap: Global, verdict: Verdict, out: &mut Vec<u8>) -> Result<(), AllocError>
+fn write_verdict(
+    heap: Global,
+    verdict: Result<Size, Refusal>,
+    out: &mut Vec<u8>,
+) -> Result<(), AllocError>
     ensures { OnOk result (out.new.items ≡ out.old.items ++ (codes " " ++ (verdict_text verdict ++ 10 ∷ []))) }
 {
-    let tail = format!(in heap; " {verdict}\n")?;
+    let tail = match verdict {
+        Ok(size) => format!(in heap; " admitted {size}\n")?,
+        Err(refusal) => format!(in heap; " refused {refusal}\n")?,
+    };
     out.extend_from_slice(tail.as_bytes())
 }
 
@@ -196,33 +195,13 @@ fn write_code(program: &Compiled, out: &mut Vec<u8>) -> Result<(), AllocError>
 pub fn write_answer(
     heap: Global,
     word: &[u8],
-    verdict: Verdict,
+    verdict: Result<Size, Refusal>,
     out: &mut Vec<u8>,
 ) -> Result<(), AllocError>
     ensures { OnOk result (out.new.items ≡ out.old.items ++ answer_line word.now verdict) }
 {
     out.extend_from_slice(word)?;
     write_verdict(heap, verdict, out)
-}
-
-// Adds the line that answers the word of a file and a chip: compiles the file.
-fn answer_compile(
-    heap: Global,
-    word: &[u8],
-    chip: Chip,
-    program: &mut Compiled,
-    memory: &mut Memory,
-    file: &[u8],
-    out: &mut Vec<u8>,
-) -> Result<(), AllocError>
-    ensures { OnOk result (out.new.items ≡ out.old.items ++ compile_line word.now chip (compile (chip_file chip) file.now)) }
-{
-    out.extend_from_slice(word)?;
-    out.extend_from_slice(&[b' ', chip_digit(chip)])?;
-    match compile_for(chip, program, memory, file) {
-        Ok(()) => write_code(program, out),
-        Err(fault) => write_verdict(heap, Verdict::Refused(fault.refusal()), out),
-    }
 }
 
 // Adds the line that answers a line whose first word spells no file.
@@ -232,46 +211,66 @@ fn write_bad_case(out: &mut Vec<u8>) -> Result<(), AllocError>
     out.extend_from_slice(b"bad case\n")
 }
 
-// Adds the line that answers a line of cases; `file` is room for the file that the line spells.
-pub fn answer(
+// What lines are answered with: working memory, and room for the file that a line spells. The programs stay the caller's,
+// who may go on with what is admitted or compiled.
+#[derive(Drop)]
+pub struct Desk {
     heap: Global,
-    line: &[u8],
-    program: &mut Admitted,
-    memory: &mut Memory,
-    file: &mut Vec<u8>,
-    out: &mut Vec<u8>,
-) -> Result<(), AllocError>
-    ensures { OnOk result (out.new.items ≡ out.old.items ++ answer_to line.now) }
-{
-    let word = first_word(line);
-    if !read_file(word, file)? {
-        return write_bad_case(out);
-    }
-    let verdict = judge(program, memory, file.as_slice());
-    write_answer(heap, word, verdict, out)
+    memory: Memory,
+    file: Vec<u8>,
 }
 
-// Adds the line that replies to a line of cases, which may ask to compile; `file` is room for the file that the line spells.
-pub fn reply(
-    heap: Global,
-    line: &[u8],
-    admitted: &mut Admitted,
-    compiled: &mut Compiled,
-    memory: &mut Memory,
-    file: &mut Vec<u8>,
-    out: &mut Vec<u8>,
-) -> Result<(), AllocError>
-    ensures { OnOk result (out.new.items ≡ out.old.items ++ reply_to line.now) }
-{
-    let (word, behind) = split_word(line);
-    if !read_file(word, file)? {
-        return write_bad_case(out);
+impl Desk {
+    pub fn new(heap: Global) -> Desk
+        ensures { result.memory ≡ empty_memory }
+    {
+        Desk {
+            heap,
+            memory: Memory::new(),
+            file: Vec::new(heap),
+        }
     }
-    match chip_named(first_word(behind)) {
-        Some(chip) => answer_compile(heap, word, chip, compiled, memory, file.as_slice(), out),
-        None => {
-            let verdict = judge(admitted, memory, file.as_slice());
-            write_answer(heap, word, verdict, out)
+
+    // Adds the line that answers a line of cases.
+    pub fn answer(
+        &mut self,
+        program: &mut Admitted,
+        line: &[u8],
+        out: &mut Vec<u8>,
+    ) -> Result<(), AllocError>
+        ensures { OnOk result (out.new.items ≡ out.old.items ++ answer_to line.now) }
+    {
+        let word = first_word(line);
+        let Some(file) = read_file(word, &mut self.file)? else {
+            return write_bad_case(out);
+        };
+        let verdict = self.memory.judge(program, file);
+        write_answer(self.heap, word, verdict, out)
+    }
+
+    // Adds the line that replies to a line of cases, which may ask to compile.
+    pub fn reply(
+        &mut self,
+        admitted: &mut Admitted,
+        compiled: &mut Compiled,
+        line: &[u8],
+        out: &mut Vec<u8>,
+    ) -> Result<(), AllocError>
+        ensures { OnOk result (out.new.items ≡ out.old.items ++ reply_to line.now) }
+    {
+        let (word, behind) = split_word(line);
+        let Some(file) = read_file(word, &mut self.file)? else {
+            return write_bad_case(out);
+        };
+        let Ok(chip) = Chip::try_from(first_word(behind)) else {
+            let verdict = self.memory.judge(admitted, file);
+            return write_answer(self.heap, word, verdict, out);
+        };
+        out.extend_from_slice(word)?;
+        out.extend_from_slice(&[b' ', chip.digit()])?;
+        match self.memory.compile_for(compiled, chip, file) {
+            Ok(()) => write_code(compiled, out),
+            Err(fault) => write_verdict(self.heap, Err(fault.into()), out),
         }
     }
 }

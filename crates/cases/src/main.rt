@@ -1,7 +1,7 @@
 #![tactic(auto)]
 
 // Answers lines of cases, one line for each.
-use answers::{Memory, answer};
+use answers::Desk;
 use stages::{Admitted, Record};
 use std::io;
 use std::io::{BufRead, BufReader, BufWriter, Write};
@@ -10,29 +10,13 @@ fn main(rt: HostRuntime) -> io::Result<()> {
     let heap = rt.alloc();
     let mut record = Record::new();
     let mut program = Admitted::over(&mut record);
-    let mut memory = Memory::new();
-    let mut input = BufReader::new(heap, rt.stdin())?;
+    let mut desk = Desk::new(heap);
+    let input = BufReader::new(heap, rt.stdin())?;
     let mut output = BufWriter::new(heap, rt.stdout())?;
-    let mut line = Vec::new(heap);
-    let mut file = Vec::new(heap);
     let mut text = Vec::new(heap);
-    for _ in 0..u64::MAX {
-        line.clear();
-        if input.read_until(b'\n', &mut line)? == 0 {
-            break;
-        }
-        if line.ends_with(b"\n") {
-            let _ = line.pop();
-        }
+    for line in input.split(heap, b'\n') {
         text.clear();
-        answer(
-            heap,
-            line.as_slice(),
-            &mut program,
-            &mut memory,
-            &mut file,
-            &mut text,
-        )?;
+        desk.answer(&mut program, line?.as_slice(), &mut text)?;
         output.write_all(text.as_slice())?;
     }
     output.flush()

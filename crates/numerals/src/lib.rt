@@ -1,7 +1,7 @@
 #![tactic(auto)]
 
-ghost use Rattle.std.specs.Prelude.{◌≡◌, ◌+◌, ◌-◌, ◌*◌, ◌^◌, ◌&&◌, IfOk, if◌then◌else◌, Some, None, nat_lt};
-ghost use Rattle.numerals.specs.Numerals.{is_digit, number_in, items_in, numbers_of, is_dash as is_dash_of, numbers_in};
+ghost use Rattle.std.specs.Prelude.{◌≡◌, ◌+◌, ◌-◌, ◌*◌, ◌^◌, ◌&&◌, IfOk, if◌then◌else◌, Some, None, nat_lt, option_map};
+ghost use Rattle.numerals.specs.Numerals.{is_digit, number_in, items_in, numbers_of, numbers_in};
 
 use std::alloc::AllocError;
 
@@ -9,69 +9,47 @@ use std::alloc::AllocError;
 fn with_digit(n: u32, b: u8) -> Option<u32>
     ensures { result ≡ (if is_digit b && nat_lt (10 * n + (b - 48)) (2 ^ 32) then Some (10 * n + (b - 48)) else None) }
 {
-    if b < b'0' || b > b'9' {
-        return None;
-    }
-    let more = 10 * n as u64 + (b - b'0') as u64;
-    if more > u32::MAX as u64 {
-        return None;
-    }
-    Some(more as u32)
+    let digit = char::from(b).to_digit(10)?;
+    n.checked_mul(10)?.checked_add(digit)
 }
 
 // The number that a word writes in decimal digits, if 32 bits hold it.
 pub fn number(word: &[u8]) -> Option<u32>
     ensures { result ≡ number_in word.now }
 {
-    if word.len() == 0 {
+    if word.is_empty() {
         return None;
     }
-    let mut n = 0_u32;
+    let mut n = 0;
     for b in word {
-        let Some(more) = with_digit(n, *b) else {
-            return None;
-        };
-        n = more;
+        n = with_digit(n, *b)?;
     }
     Some(n)
 }
 
-// The numbers between the commas of a word, into `numbers`; whether each is one.
-fn read_items(word: &[u8], numbers: &mut Vec<u32>) -> Result<bool, AllocError>
-    ensures { IfOk result (λ all. numbers_of (items_in word.now) ≡ (if all then Some numbers.new.items else None)) }
+// The numbers between the commas of a word, in the room of `numbers`, if each is one.
+fn read_items<'a>(word: &[u8], numbers: &'a mut Vec<u32>) -> Result<Option<&'a [u32]>, AllocError>
+    ensures { IfOk result (λ all. option_map (λ n. n.now) all ≡ numbers_of (items_in word.now)) }
 {
     numbers.clear();
-    let mut start = 0;
-    for i in 0..word.len() {
-        if word[i] != b',' {
-            continue;
-        }
-        let Some(n) = number(&word[start..i]) else {
-            return Ok(false);
+    for item in word.split(|b| *b == b',') {
+        let Some(n) = number(item) else {
+            return Ok(None);
         };
         numbers.push(n)?;
-        start = i + 1;
     }
-    let Some(n) = number(&word[start..]) else {
-        return Ok(false);
-    };
-    numbers.push(n)?;
-    Ok(true)
+    Ok(Some(numbers.as_slice()))
 }
 
-fn is_dash(word: &[u8]) -> bool
-    ensures { result ≡ is_dash_of word.now }
+// The list of numbers that a word writes, in the room of `numbers`, none of them as `-`.
+pub fn read_numbers<'a>(
+    word: &[u8],
+    numbers: &'a mut Vec<u32>,
+) -> Result<Option<&'a [u32]>, AllocError>
+    ensures { IfOk result (λ all. option_map (λ n. n.now) all ≡ numbers_in word.now) }
 {
-    word.len() == 1 && word[0] == b'-'
-}
-
-// The list of numbers that a word writes, into `numbers`, none of them as `-`; whether it writes a list.
-pub fn read_numbers(word: &[u8], numbers: &mut Vec<u32>) -> Result<bool, AllocError>
-    ensures { IfOk result (λ all. numbers_in word.now ≡ (if all then Some numbers.new.items else None)) }
-{
-    if is_dash(word) {
-        numbers.clear();
-        return Ok(true);
+    match word {
+        [b'-'] => Ok(Some(&[])),
+        _ => read_items(word, numbers),
     }
-    read_items(word, numbers)
 }

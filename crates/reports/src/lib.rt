@@ -5,8 +5,7 @@ ghost use Rattle.faults.specs.Refusals.{program_refusal};
 ghost use Rattle.reports.specs.Names.{class_name as class_name_of, op_name as op_name_of};
 ghost use Rattle.reports.specs.Places.{bit_place as bit_place_of, row_place as row_place_of, place_of, place_number, row_bytes as row_bytes_of};
 
-use answers::layer_name;
-use faults::{BitFault, ProgramFault, RowFault};
+use faults::{BitFault, ProgramFault, Refusal, RowFault};
 use rows::{Op, Row as SourceRow};
 use stages::states::Admitted;
 use std::fmt;
@@ -123,9 +122,7 @@ pub struct Explained<'a> {
 
 impl fmt::Display for Explained<'_> {
     fn fmt<W: fmt::Write>(&self, f: &mut fmt::Formatter<W>) -> fmt::Result {
-        let refusal = self.fault.refusal();
-        let number = refusal.number;
-        let layer = layer_name(refusal.layer);
+        let Refusal { number, layer, .. } = self.fault.into();
         let place = place_of(self.fault);
         let cause = cause(self.fault);
         write!(

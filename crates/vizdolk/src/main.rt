@@ -1,7 +1,7 @@
 #![tactic(auto)]
 
 // Admits and compiles source files and lists chips, for people.
-use answers::{Chip, Memory, chip_name, chip_named, compile_for};
+use answers::{Chip, Memory};
 use listing::chip_listing;
 use reports::{Explained, Rows};
 use sheets::Sheet;
@@ -44,17 +44,16 @@ fn tell_compiled(
 ) -> io::Result<()> {
     let mut record = Record::new();
     let mut program = Compiled::over(&mut record);
-    match compile_for(chip, &mut program, memory, file) {
+    match memory.compile_for(&mut program, chip, file) {
         Ok(()) => {
             let vars = program.vars();
             let count = program.source_rows().len();
             let rounds = program.rounds();
             let slots = program.slots();
             let made = program.code().len();
-            let name = chip_name(chip);
             let sheet = Sheet { program: &program };
             println!(rt;
-                "{path}: variables {vars}, rows {count}\n{sheet}\ncompiled for the {name} chip: rounds {rounds}, slots {slots}, rows in {count}, rows out {made}\n"
+                "{path}: variables {vars}, rows {count}\n{sheet}\ncompiled for the {chip} chip: rounds {rounds}, slots {slots}, rows in {count}, rows out {made}\n"
             )
         }
         Err(fault) => {
@@ -91,9 +90,9 @@ fn tell_no_chip(rt: &HostRuntime, word: &str) -> io::Result<()> {
 }
 
 fn compile_files(rt: &HostRuntime, word: &str, paths: &[String]) -> io::Result<()> {
-    match chip_named(word.as_bytes()) {
-        Some(chip) => tell_files(rt, paths, Some(chip)),
-        None => tell_no_chip(rt, word),
+    match Chip::try_from(word.as_bytes()) {
+        Ok(chip) => tell_files(rt, paths, Some(chip)),
+        Err(_) => tell_no_chip(rt, word),
     }
 }
 

@@ -1,69 +1,50 @@
-use Rattle.std.proofs.Common.{◌≡◌, ℕ, ◌+◌, ◌≤◌, List, [], ◌∷◌, ◌++◌, length, drop, Some, vec_items, Option, sym, ap, ◌∙◌, arith}
-use Rattle.std.proofs.lemmas.Bool.{eq-eqb, ne_eqb}
+use Rattle.std.proofs.Common.{rules, ◌≡◌, ℕ, List, ◌<◌, length, get_or, map, drop, Some, None, Option, vec_items, sym, ap, ◌∙◌, arith}
+use borrow.Author.Tests.{tests}
+use Rattle.std.specs.List.{slice_split}
+use Rattle.std.specs.Iterator.{Yields}
+use Rattle.std.proofs.lemmas.List.{length_push, drop_all}
+use Rattle.std.proofs.lemmas.Iterator.{YieldsList}
+use Rattle.std.proofs.lemmas.Iterator.Consumers.{YieldsList-at, YieldsList-turn, YieldsList-end}
+use Rattle.std.proofs.lemmas.Iterator.Splits.{YieldsList-from_slice_split}
 use Rattle.hexwords.proofs.Spelling.{onto}
-use Rattle.numerals.specs.Numerals.{items_in, numbers_of}
-use Rattle.numerals.proofs.Items.{glued, part, part_none, item_more, item_comma, item_last, numbers_more, numbers_stop, numbers_end}
+use Rattle.numerals.specs.Numerals.{numbers_of}
+use Rattle.numerals.proofs.Items.{is_comma, items_parts, numbers_more, numbers_stop, numbers_end, onto_none}
 use Rattle.numerals.proofs.read_items.Goals as goal
 
--- the numbers so far in front of those of the items
-abbrev all_numbers : List ℕ → List (List ℕ) → Option (List ℕ)
-all_numbers xs items = onto xs (numbers_of items)
+pub loop-item-init : goal.loop-item-init
+loop-item-init c =
+    let items = slice_split is_comma c.args.word.now in
+    ap (λ (xs : List ℕ). onto xs (numbers_of items)) c.clear.ensures.items ∙ onto_none (numbers_of items)
 
-pub loop-i-preserved-then-word-i-ne44 : goal.loop-i-preserved-then-word-i-ne44
-loop-i-preserved-then-word-i-ne44 c =
-    let w = c.args.word.now in
-    let other = ne_eqb _ 44 c.if-word-i-ne44.true in
-    (omega arith, ap (all_numbers (vec_items c.loop-i.numbers)) (sym (item_more w c.loop-i.start c.loop-i.i c.loop-i.invariant.0 c.loop-i-test.true other)) ∙ c.loop-i.invariant.1)
+-- a step and the end of a walk over parts, with the walk in front of what it yields
+turn : {S A B : Type 0} {steps : S → Option A → S → Type 0} {v : A → B} {s : S} {all : List B} (xs : List A) {t : S} → Yields steps s xs t → YieldsList steps v s all → {r : Option A} {u : S} (x : A) → r ≡ Some x → steps t r u → (length xs < length all) × (v x ≡ get_or all (length xs) (v x))
+turn xs y e x is step = YieldsList-turn e xs _ y _ _ x is step
+
+end : {S A B : Type 0} {steps : S → Option A → S → Type 0} {v : A → B} {s : S} {all : List B} (xs : List A) {t : S} → Yields steps s xs t → YieldsList steps v s all → {r : Option A} {u : S} → r ≡ None → steps t r u → (map v xs ≡ all) × (length xs ≡ length all)
+end xs y e is step = YieldsList-end e xs _ y _ _ is step
 
 pub returns-in_default : goal.returns-in_default
 returns-in_default c =
     let w = c.args.word.now in
-    let xs = vec_items c.loop-i.numbers in
-    let s = c.loop-i.start in
-    let i = c.loop-i.i in
-    let comma = eq-eqb _ 44 c.if-word-i-ne44.false in
-    sym c.loop-i.invariant.1
-    ∙ (ap (all_numbers xs) (item_comma w s i c.loop-i-test.true comma)
-    ∙ numbers_stop xs (part w s i) (items_in (drop (i + 1) w)) (sym c.in_default.ensures))
+    let items = slice_split is_comma w in
+    let next = turn c.loop-item.yielded c.loop-item.yielded_by (YieldsList-at c.into_iter-item-iterator.ensures.into_iter_gives (YieldsList-from_slice_split _ is_comma w c.split-item-items.ensures.rest c.split-item-items.ensures.done c.split-item-items.ensures.closure (λ x r q k. search (rules, tests)))) c.in-Some.item c.in-Some.is c.next.ensures.steps in
+    sym (numbers_stop (vec_items c.loop-item.numbers) items (length c.loop-item.yielded) c.in-Some.item.now next (sym c.in_default.ensures))
+    ∙ (c.loop-item.invariant ∙ ap numbers_of (sym (items_parts w)))
 
-pub loop-i-preserved : goal.loop-i-preserved
-loop-i-preserved c =
+pub loop-item-preserved : goal.loop-item-preserved
+loop-item-preserved c =
     let w = c.args.word.now in
-    let xs = vec_items c.loop-i.numbers in
-    let s = c.loop-i.start in
-    let i = c.loop-i.i in
-    let n = c.in-Some.n in
-    let rest = items_in (drop (i + 1) w) in
-    let comma = eq-eqb _ 44 c.if-word-i-ne44.false in (
-      omega arith,
-      ap (λ (ys : List ℕ). all_numbers ys (glued (part w (i + 1) (i + 1)) rest)) c.in_ok-push.ensures.items
-          ∙ (ap (all_numbers (xs ++ n ∷ [])) (part_none w (i + 1) rest)
-          ∙ (sym (ap (all_numbers xs) (item_comma w s i c.loop-i-test.true comma) ∙ numbers_more xs (part w s i) rest n (sym c.in-Some.ensures))
-          ∙ c.loop-i.invariant.1)),
-    )
-
--- the item that the word ends with
-ends : (w : List ℕ) (s i : ℕ) → length w ≤ i → i ≤ length w → glued (part w s i) (items_in (drop i w)) ≡ part w s (length w) ∷ []
-ends w s i l m =
-    let all : i ≡ length w = omega arith in
-    item_last w s i l ∙ ap (λ (k : ℕ). part w s k ∷ []) all
-
-pub returns-in_default-number : goal.returns-in_default-number
-returns-in_default-number c =
-    let w = c.args.word.now in
-    let xs = vec_items c.loop-i.numbers in
-    let s = c.loop-i.start in
-    sym c.loop-i.invariant.1
-    ∙ (ap (all_numbers xs) (ends w s c.loop-i.i c.loop-i-test.false c.loop-i.auto.i-end)
-    ∙ numbers_stop xs (part w s (length w)) [] (sym c.in_default-number.ensures))
+    let items = slice_split is_comma w in
+    let next = turn c.loop-item.yielded c.loop-item.yielded_by (YieldsList-at c.into_iter-item-iterator.ensures.into_iter_gives (YieldsList-from_slice_split _ is_comma w c.split-item-items.ensures.rest c.split-item-items.ensures.done c.split-item-items.ensures.closure (λ x r q k. search (rules, tests)))) c.in-Some.item c.in-Some.is c.next.ensures.steps in
+    (λ k. onto (c.in_ok-push.ensures.items k) (numbers_of (drop (length_push c.loop-item.yielded c.in-Some.item k) items)))
+    ∙ (sym (numbers_more (vec_items c.loop-item.numbers) items (length c.loop-item.yielded) c.in-Some.item.now _ next (sym c.in-Some-number.ensures)) ∙ c.loop-item.invariant)
 
 pub returns : goal.returns
 returns c =
     let w = c.args.word.now in
-    let xs = vec_items c.loop-i.numbers in
-    let s = c.loop-i.start in
-    let n = c.in-Some-number.n in
-    sym c.loop-i.invariant.1
-    ∙ (ap (all_numbers xs) (ends w s c.loop-i.i c.loop-i-test.false c.loop-i.auto.i-end)
-    ∙ (numbers_more xs (part w s (length w)) [] n (sym c.in-Some-number.ensures)
-    ∙ (numbers_end (xs ++ n ∷ []) ∙ ap (λ (ys : List ℕ). Some ys) (sym c.in_ok-push-2.ensures.items))))
+    let xs = vec_items c.loop-item.numbers in
+    let items = slice_split is_comma w in
+    let all = end c.loop-item.yielded c.loop-item.yielded_by (YieldsList-at c.into_iter-item-iterator.ensures.into_iter_gives (YieldsList-from_slice_split _ is_comma w c.split-item-items.ensures.rest c.split-item-items.ensures.done c.split-item-items.ensures.closure (λ x r q k. search (rules, tests)))) c.in-None.is c.next.ensures.steps in
+    ap (λ (ys : List ℕ). Some ys) c.as_slice.ensures.value
+    ∙ (sym (ap (λ (rest : List (List ℕ)). onto xs (numbers_of rest)) (drop_all (length c.loop-item.yielded) items (omega (arith, all.1))) ∙ numbers_end xs)
+    ∙ (c.loop-item.invariant ∙ ap numbers_of (sym (items_parts w))))

@@ -1,10 +1,10 @@
-use Rattle.std.proofs.Common.{◌≡◌, ◌≤◌, drop, vec_items}
+use Rattle.std.proofs.Common.{◌≡◌, length, drop, vec_items}
 use Rattle.hexwords.proofs.Spelling.{onto}
-use Rattle.numerals.specs.Numerals.{items_in, numbers_of}
-use Rattle.numerals.proofs.Items.{glued, part}
+use Rattle.std.specs.List.{slice_split}
+use Rattle.numerals.specs.Numerals.{numbers_of}
+use Rattle.numerals.proofs.Items.{is_comma}
 use Rattle.numerals.proofs.read_items.Given as goal
 
-abbrev pub invariant-loop-i : goal.invariant-loop-i
-invariant-loop-i l =
-    (l.start ≤ l.i)
-    × (onto (vec_items l.numbers) (numbers_of (glued (part l.word l.start l.i) (items_in (drop l.i l.word)))) ≡ numbers_of (items_in l.word))
+abbrev pub invariant-loop-item : goal.invariant-loop-item
+invariant-loop-item l =
+    onto (vec_items l.numbers) (numbers_of (drop (length l.yielded) (slice_split is_comma l.word))) ≡ numbers_of (slice_split is_comma l.word)
