@@ -1,6 +1,7 @@
 -- One turn of coalescing, and what may be merged.
 use Rattle.std.proofs.Common.{◌≡◌, ℕ, suc, ◌<◌, ◌≤◌, min, max, true, false, ltb, List, map, length, get_or, refl, arith}
 use Rattle.std.proofs.lemmas.Bool.{lt-ltb, le-ltb, eq-eqb, ne_eqb}
+use Rattle.counting.proofs.Searches.{least_is, least_none}
 use Rattle.sets.specs.Sets.{has, single, minus}
 use Rattle.registers.specs.Model.{Model}
 use Rattle.rounds.specs.declared.Ends.{Ends}
@@ -8,7 +9,7 @@ use Rattle.rounds.specs.Interference.{Graph, beside, node_at}
 use Rattle.rounds.specs.Pressure.{passes}
 use Rattle.rounds.specs.Coalescing.{contracted, merged, heavy, mergeable, no_ends, first_mergeable, coalesced}
 use Rattle.graphs.specs.Graphs.{graph}
-use Rattle.coalescing.specs.Merges.{moved}
+use Rattle.coalescing.specs.Pairs.{moved}
 
 pub merged_from : (g : Graph) (x y low high : ℕ) (node : List ℕ) (nodes : ℕ) (edges hard : List ℕ) → low ≡ min x y → high ≡ max x y →
     node ≡ map (moved low high) g.node → nodes ≡ minus g.nodes (single high) → edges ≡ contracted low high g.edges → hard ≡ contracted low high g.hard →
@@ -48,3 +49,14 @@ pub coalesced_step : (m : Model) (cs : List Ends) (j i : ℕ) (g : Graph) → i 
     coalesced m cs (suc j) g ≡ coalesced m cs j (merged (node_at g (get_or cs i no_ends).d) (node_at g (get_or cs i no_ends).a) g)
 unfolding coalesced
 coalesced_step m cs j i g e l = let f : ltb (first_mergeable m g cs) (length cs) ≡ true = lt-ltb _ _ (omega arith) in rw (f, ← e)
+
+-- the first copy that allows a merge, or none
+pub first_is : (m : Model) (g : Graph) (cs : List Ends) (i : ℕ) → i < length cs →
+    ((j : ℕ) → j < i → mergeable m g (node_at g (get_or cs j no_ends).d) (node_at g (get_or cs j no_ends).a) ≡ false) → mergeable m g (node_at g (get_or cs i no_ends).d) (node_at g (get_or cs i no_ends).a) ≡ true →
+    i ≡ first_mergeable m g cs
+unfolding first_mergeable
+first_is m g cs i l below here = least_is _ _ i l below here
+
+pub first_none : (m : Model) (g : Graph) (cs : List Ends) → ((j : ℕ) → j < length cs → mergeable m g (node_at g (get_or cs j no_ends).d) (node_at g (get_or cs j no_ends).a) ≡ false) → length cs ≡ first_mergeable m g cs
+unfolding first_mergeable
+first_none m g cs none = least_none _ (length cs) none

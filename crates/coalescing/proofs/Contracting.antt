@@ -10,7 +10,7 @@ use Rattle.registers.specs.Model.{Model}
 use Rattle.rounds.specs.Interference.{Graph, beside}
 use Rattle.rounds.specs.Pressure.{passes}
 use Rattle.rounds.specs.Coalescing.{renamed, contracted, heavy}
-use Rattle.coalescing.specs.Merges.{near_both}
+use Rattle.coalescing.specs.Pairs.{near_both}
 
 renamed_at : (low high : ℕ) (es : List ℕ) (a : ℕ) → get_or (map (renamed low high) es) a 0 ≡ renamed low high (get_or es a 0)
 renamed_at low high es a = elim (cases_lt a (length es)) [

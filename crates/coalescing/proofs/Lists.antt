@@ -1,10 +1,10 @@
 -- Lists that a loop maps in place, and the list of the numbers below a bound.
-use Rattle.std.proofs.Common.{◌≡◌, ℕ, zero, suc, ◌+◌, ◌<◌, ◌≤◌, eqb, List, [], ◌∷◌, ◌++◌, map, length, get_or, take, drop, set, sym, refl, ap, ◌∙◌, inl, inr, add-zero, add-one, arith}
+use Rattle.std.proofs.Common.{◌≡◌, ℕ, zero, suc, ◌+◌, ◌<◌, ◌≤◌, eqb, List, [], ◌∷◌, ◌++◌, map, length, get_or, take, drop, set, sym, refl, ap, ◌∙◌, inl, inr, arith}
 use Rattle.std.proofs.lemmas.List.{append-nil, append_assoc, drop_more, drop_all, take_all, map_more, get_or_at, get_or-map, get_or_past, set_at, length-map, length-take-le}
 use Rattle.std.proofs.lemmas.Bool.{cases_lt, cond_both}
 use Rattle.counting.specs.Counting.{range}
 use Rattle.coalescing.specs.Facts.{Placed}
-use Rattle.coalescing.specs.Merges.{moved}
+use Rattle.coalescing.specs.Pairs.{moved}
 
 -- a list whose first i elements were mapped
 abbrev pub mapped : {X : Type 0} → (X → X) → ℕ → List X → List X
@@ -28,13 +28,16 @@ mapped_all f xs i l = rw (take_all i xs l, drop_all i xs l) (append-nil (map f x
 
 -- ---- the numbers below a bound
 
-range_push : (n j : ℕ) → range (suc n) j ≡ range n j ++ (j + n) ∷ []
+pub range_length : (n j : ℕ) → length (range n j) ≡ n
 unfolding range
-range_push zero j = rw (add-zero j)
-range_push (suc n) j = let e : suc j + n ≡ j + suc n = omega arith in ap (λ (xs : List ℕ). j ∷ xs) (range_push n (suc j) ∙ ap (λ (k : ℕ). range n (suc j) ++ k ∷ []) e)
+range_length zero j = refl
+range_length (suc n) j = ap suc (range_length n (suc j))
 
-pub range_more : (n : ℕ) → range (n + 1) 0 ≡ range n 0 ++ n ∷ []
-range_more n = let e : 0 + n ≡ n = omega arith in rw add-one (range_push n 0 ∙ ap (λ (k : ℕ). range n 0 ++ k ∷ []) e)
+pub range_at : (n j i : ℕ) → i < n → get_or (range n j) i 0 ≡ j + i
+unfolding range
+range_at zero j i l = absurd (omega arith)
+range_at (suc n) j zero l = omega arith
+range_at (suc n) j (suc i) l = omega (arith, range_at n (suc j) i (omega arith))
 
 pub take_range : (n m j : ℕ) → n ≤ m → take n (range m j) ≡ range n j
 unfolding range
@@ -47,10 +50,6 @@ unfolding range
 range_placed zero j l v = omega arith
 range_placed (suc n) j l zero = omega arith
 range_placed (suc n) j l (suc v) = range_placed n (suc j) (omega arith) v
-
--- a list that was filled with the numbers of its places
-pub filled : (ns : List ℕ) (v : ℕ) → v ≡ 448 → length ns ≡ 448 → take v ns ≡ range v 0 → ns ≡ range 448 0
-filled ns v e l h = sym (take_all v ns (omega arith)) ∙ h ∙ ap (λ (n : ℕ). range n 0) e
 
 pub placed_moved : (low high : ℕ) (ns : List ℕ) → low < 448 → Placed ns → Placed (map (moved low high) ns)
 placed_moved low high ns l h v = elim (cases_lt v (length ns)) [

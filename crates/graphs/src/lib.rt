@@ -57,7 +57,7 @@ fn mask(classes: &[u8], class: u8) -> NodeSet
 }
 
 // The members of a set that pass a test.
-pub fn passing<T: Fn(usize) -> bool>(set: NodeSet, test: T) -> NodeSet
+pub fn filtered<T: Fn(usize) -> bool>(set: NodeSet, test: T) -> NodeSet
     requires { T.IsAlwaysCallable test }
     ensures { (t : ℕ → Bool) → ((v : ℕ) (r : Bool) → v < 448 → T.post test v r → r ≡ t v) → (k : ℕ) → has (members result) k ≡ (has (members set) k && t k) }
 {

@@ -1,7 +1,7 @@
 use Rattle.std.proofs.Common.{◌≡◌, ℕ, ◌-◌, ◌<◌, Bool}
 use Rattle.sets.specs.Words.{members}
 use Rattle.graphs.proofs.Walking.{Stands, Kept}
-use Rattle.graphs.proofs.passing.Given as goal
+use Rattle.graphs.proofs.filtered.Given as goal
 
 abbrev pub invariant-loop-v : goal.invariant-loop-v
 invariant-loop-v g l =

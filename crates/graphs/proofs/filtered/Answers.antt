@@ -5,8 +5,8 @@ use Rattle.sets.specs.Sets.{has, single, union, when}
 use Rattle.sets.specs.Words.{joined, members, empty_set}
 use Rattle.sets.proofs.Words.{joined_lt}
 use Rattle.graphs.proofs.Walking.{stands, further, kept_none, kept_more, kept_all}
-use Rattle.graphs.proofs.passing.Goals as goal
-use Rattle.graphs.proofs.passing.Goals.{then-test, else-test}
+use Rattle.graphs.proofs.filtered.Goals as goal
+use Rattle.graphs.proofs.filtered.Goals.{then-test, else-test}
 
 empty_none : members empty_set ≡ 0
 unfolding joined
