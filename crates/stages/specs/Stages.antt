@@ -35,11 +35,6 @@ abbrev pub holding : {A : Type 0} → Result (Unit {0}) ProgramFault → A → R
 holding (Ok _) x = Ok x
 holding (Err e) x = Err e
 
--- whether a round may be held in a memory
-abbrev pub unless_fault : Option ProgramFault → Result (Unit {0}) ProgramFault
-unless_fault (Some e) = Err e
-unless_fault None = Ok tt
-
 -- a round of a program that came from a file spilled, and a token says what
 abbrev pub Pending : Token → Working → Type 0
 Pending t w = (m : Model) × (ms : List Model) × (bs : List ℕ) × Grown ms bs w × Lawful m × (colours (round_of m w) ≡ false) × (ticket_of t w ≡ ticket w (round_of m w))

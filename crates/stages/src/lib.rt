@@ -6,6 +6,7 @@ pub mod states;
 ghost use Rattle.std.specs.Prelude.{◌≡◌, ℕ, true, false, not, List, replicate, Ok, Err};
 ghost use Rattle.faults.specs.declared.ProgramFault.{ProgramFault as AnyFault};
 ghost use Rattle.rows.specs.Rows.{Program};
+ghost use Rattle.admission.specs.Admission.{unless_fault};
 ghost use Rattle.admission.specs.Memory.{parts, short_part as short_part_of, answer, answered};
 ghost use Rattle.paths.specs.Paths.{Admits};
 ghost use Rattle.rounds.specs.Round.{colours};
@@ -17,7 +18,7 @@ ghost use Rattle.drafts.specs.Drafts.{working_of, coloured_of, ticket_of};
 ghost use Rattle.histories.specs.Histories.{Grown, Finished, end_program, end_code};
 ghost use Rattle.agreement.specs.Keeping.{Prompt};
 ghost use Rattle.allocation.specs.Allocation.{afterwards};
-ghost use Rattle.stages.specs.Stages.{program_in, working_in, coloured_in, compiled_in, holding, unless_fault, Turned, Ready};
+ghost use Rattle.stages.specs.Stages.{program_in, working_in, coloured_in, compiled_in, holding, Turned, Ready};
 
 use admission::{admitted, short_part};
 use allocation::allocate;
@@ -102,10 +103,7 @@ pub fn room(
 ) -> Result<(), ProgramFault>
     ensures { result ≡ unless_fault (short_part_of (parts first.now second.now third.now)) }
 {
-    match short_part(first, second, third) {
-        Some(fault) => Err(fault),
-        None => Ok(()),
-    }
+    short_part(first, second, third)
 }
 
 // What a spill order asks for after a round that coloured: nothing.
