@@ -148,8 +148,8 @@ fn settle<K: FactKind>(kind: &K, facts: &mut [NodeSet], comers: &[NodeSet])
     while sweep(kind, facts, comers) {}
 }
 
-// Adds row j to the comers of row i, if there is a row i.
-fn list_one(sets: &mut [NodeSet], i: usize, j: usize)
+// Adds j to the set at place i, if there is one.
+pub fn list_one(sets: &mut [NodeSet], i: usize, j: usize)
     requires { j < 448 }
     ensures { Listing sets.old sets.new j (i ∷ []) }
 {
