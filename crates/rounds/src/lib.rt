@@ -27,5 +27,4 @@ pub struct Ends {
 // What is called live is the least solution of the equations of liveness.
 pub fn liveness_is_least()
     ensures { LiveLeast }
-{
-}
+{}
