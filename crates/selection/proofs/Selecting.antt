@@ -8,7 +8,6 @@ use Rattle.std.specs.Option.{unwrap_or}
 use Rattle.std.proofs.lemmas.Bool.{cases_Bool, cases_eq, cases_lt, eq-eqb, ne_eqb, lt-ltb, both_ways}
 use Rattle.counting.specs.Counting.{any, least}
 use Rattle.counting.proofs.Searches.{any_is, any_none, any_found, any_ext, least_ext, least_is, least_none}
-use Rattle.sets.specs.declared.NodeSet.{NodeSet}
 use Rattle.sets.specs.Sets.{has, single, union, meet, minus, when}
 use Rattle.sets.proofs.Members.{has_union, has_meet, has_minus, has_single, has_when, has_none, same_members}
 use Rattle.sets.specs.Words.{members, no_set}
@@ -48,7 +47,7 @@ none_overlaps : (m : Model) → Lawful m → (r : ℕ) → m.overlaps r m.count 
 none_overlaps m lawful r =
     elim (cases_Bool (m.overlaps r m.count)) [ inl e ↦ absurd (omega (arith, lawful.apart r m.count e)) | inr e ↦ e ]
 
-vacant_free : (m : Model) → Lawful m → (g : Graph) (taken : List ℕ) (occupants : List NodeSet) → length taken ≡ length g.classes → length taken ≤ 448 → Occupied m taken occupants →
+vacant_free : (m : Model) → Lawful m → (g : Graph) (taken : List ℕ) (occupants : List ℕ) → length taken ≡ length g.classes → length taken ≤ 448 → Occupied m taken occupants →
     (v r : ℕ) → r < m.count → vacant m occupants (class_at g v) (neighbours g v) r ≡ free m g taken v r
 unfolding free
 vacant_free m lawful g taken occupants sized few held v r lt =
@@ -74,14 +73,14 @@ pub lowest_found : (t : ℕ → Bool) (n : ℕ) → unwrap_or (find t (range_wit
 lowest_found t n = rw (zero-add n) at (found_from t n 0 (λ k l. absurd (omega arith)))
 
 -- the lowest vacant register is the one that the node takes
-pub lowest_choice : (m : Model) → Lawful m → (g : Graph) (taken : List ℕ) (occupants : List NodeSet) → length taken ≡ length g.classes → length taken ≤ 448 → Occupied m taken occupants →
+pub lowest_choice : (m : Model) → Lawful m → (g : Graph) (taken : List ℕ) (occupants : List ℕ) → length taken ≡ length g.classes → length taken ≤ 448 → Occupied m taken occupants →
     (v class near s : ℕ) → class ≡ class_at g v → near ≡ neighbours g v → s ≡ least (vacant m occupants class near) m.count → s ≡ choice m g taken v
 unfolding choice
 lowest_choice m lawful g taken occupants sized few held v class near s ec en is =
     is ∙ rw (ec, en) (least_ext (vacant m occupants (class_at g v) (neighbours g v)) (free m g taken v) m.count (λ r l. vacant_free m lawful g taken occupants sized few held v r l))
 
 -- what a search of the registers answers, or none
-pub lowest_taken : (m m' : Model) (occupants : List NodeSet) (class near none s : ℕ) (o : Option ℕ) → m' ≡ m → o ≡ find (vacant m' occupants class near) (range_with_len 0 m'.count) → none ≡ m.count →
+pub lowest_taken : (m m' : Model) (occupants : List ℕ) (class near none s : ℕ) (o : Option ℕ) → m' ≡ m → o ≡ find (vacant m' occupants class near) (range_with_len 0 m'.count) → none ≡ m.count →
     s ≡ unwrap_or o none → s ≡ least (vacant m occupants class near) m.count
 lowest_taken m m' occupants class near none s o em eo en is = is ∙ rw (eo, en, em) (lowest_found (vacant m occupants class near) m.count)
 
@@ -92,7 +91,7 @@ nobody m lawful n k taken r e =
     ap (m.overlaps r) none ∙ none_overlaps m lawful r
 
 -- one more node stands in a register
-pub occupied_more : (m : Model) (taken : List ℕ) (was after : List NodeSet) (v s : ℕ) → v < length taken → Occupied m taken was → Settled m v s was after → Occupied m (set taken v s) after
+pub occupied_more : (m : Model) (taken : List ℕ) (was after : List ℕ) (v s : ℕ) → v < length taken → Occupied m taken was → Settled m v s was after → Occupied m (set taken v s) after
 occupied_more m taken was after v s lt held settled r k l b =
     settled r k l b ∙ elim (cases_eq v k) [
       | inl e ↦ rw (eq-eqb v k e, ← e, get_or-set_same taken v s m.count lt)
@@ -100,7 +99,7 @@ occupied_more m taken was after v s lt held settled r k l b =
     ]
 
 -- the sets of all registers, if those below n were placed one by one
-pub settled_below : (m : Model) (v s n : ℕ) (was items rest : List NodeSet) → m.count ≡ n → length items ≡ n →
+pub settled_below : (m : Model) (v s n : ℕ) (was items rest : List ℕ) → m.count ≡ n → length items ≡ n →
     ((r k : ℕ) → r < n → k < 448 → occupies items r k ≡ cond (eqb v k) (m.overlaps r s) (occupies (take n was) r k)) → Settled m v s was (items ++ rest)
 settled_below m v s n was items rest en el placed r k l b =
     let below : r < n = omega arith in

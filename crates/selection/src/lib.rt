@@ -19,6 +19,8 @@ use sets::NodeSet;
 fn are_apart(a: NodeSet, b: NodeSet) -> bool
     ensures { result ≡ not (any (λ k. has (members a) k && has (members b) k) 448) }
 {
+    a.small();
+    b.small();
     a.meet(b).is_empty()
 }
 
