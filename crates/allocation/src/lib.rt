@@ -7,6 +7,7 @@ ghost use Rattle.allocation.specs.Allocation.{ShowsRound, is_short as is_short_o
 use admission::{EDGE_SETS, FACT_SETS};
 use coalescing::coalesce;
 use drafts::token::Colouring;
+use graphs::Weighing;
 use graphs::variables::Variables;
 use interference::interfere;
 use registers::RegisterFile;
@@ -34,16 +35,14 @@ fn colour<F: RegisterFile>(
     let n = variables.count;
     interfere(lines, live, edges, hard);
     let merged = coalesce(file, variables, lines, nodes, edges, hard);
-    let removals = simplify(
+    let weighing = Weighing {
         file,
         variables,
-        lines,
-        &merged.node[..n],
-        merged.nodes,
         edges,
-    );
-    let order = &removals.order[..removals.count];
-    let registers = select(file, &variables.classes[..n], edges, order);
+    };
+    let removals = simplify(weighing, lines, &merged.node[..n], merged.nodes);
+    let order = removals.as_slice();
+    let registers = select(file, variables.as_slice(), edges, order);
     Colouring {
         node: merged.node,
         registers,

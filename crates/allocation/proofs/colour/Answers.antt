@@ -1,8 +1,9 @@
-use Rattle.std.proofs.Common.{◌≡◌, ◌≤◌, true, length, take, sym, refl, ◌∙◌, arith}
+use Rattle.std.proofs.Common.{◌≡◌, ℕ, ◌≤◌, true, length, take, sym, refl, ap, ◌∙◌, arith}
 use Rattle.std.proofs.lemmas.List.{length-take-le}
 use Rattle.std.proofs.lemmas.Bool.{le-leb}
 use Rattle.sets.specs.Words.{members, sets_of}
 use Rattle.rounds.specs.Select.{selected}
+use Rattle.rounds.specs.Round.{hoped_for}
 use Rattle.graphs.specs.Graphs.{classes_of}
 use Rattle.interference.specs.Building.{Built}
 use Rattle.coalescing.specs.Merges.{graph_of}
@@ -29,10 +30,14 @@ returns g c =
     let registers = c.select-registers.result in
     let drawn = graph_built m v.source (classes_of v) (members c.args.nodes) rows v.count (length c.args.edges.now) (length c.args.hard.now) (sets_of edges) (sets_of hard) graph
     (sym classes) c.requires.edges c.requires.hard built.edges built.hard c.coalesce-merged.ensures in
-    let taken : take v.count registers ≡ selected m graph order = rw classes at (c.select-registers.ensures (omega arith) graph refl refl) in
+    let known : c.as_slice.result.now ≡ classes_of v = c.as_slice.ensures in
+    let removed : c.as_slice-order.result.now ≡ order = c.as_slice-order.ensures in
+    let long : length c.as_slice.result.now ≡ v.count = ap length known ∙ classes in
+    let taken : take v.count registers ≡ selected m graph order =
+    ap (λ (n : ℕ). take n registers) (sym long) ∙ c.select-registers.ensures (omega (arith, long, few)) graph (sym known) refl ∙ ap (selected m graph) removed in
     let size : length (take v.count registers) ≡ v.count = length-take-le v.count registers (omega (arith, few)) in
     let out = rw size at (c.spilled.ensures (omega (arith, size, few))) in
     record {
-      shows = shown m v.source (classes_of v) (members c.args.nodes) rows v.count _ graph order (sym classes) few drawn (c.simplify-removals.ensures graph refl refl refl refl) refl taken out c.hoped.ensures;
+      shows = shown m v.source (classes_of v) (members c.args.nodes) rows v.count _ graph order (sym classes) few drawn (c.simplify-removals.ensures graph refl refl refl refl) refl taken out (λ w l. c.hoped.ensures w l ∙ ap (λ rs. hoped_for rs w) removed);
       past = drop_later (length rows) 512 live c.args.live.now c.args.lines.few built.past;
     }
