@@ -62,10 +62,12 @@ pub fn filtered<T: Fn(usize) -> bool>(set: NodeSet, test: T) -> NodeSet
     ensures { (t : ℕ → Bool) → ((v : ℕ) (r : Bool) → v < 448 → T.post test v r → r ≡ t v) → (k : ℕ) → has (members result) k ≡ (has (members set) k && t k) }
 {
     let mut kept = NodeSet::EMPTY;
-    for v in set {
+    let mut v = set.next(0);
+    while v < NodeSet::CAPACITY {
         if test(v) {
             kept = kept.with(v);
         }
+        v = set.next(v + 1);
     }
     kept
 }
