@@ -1,5 +1,5 @@
 -- Lines of words, and files spelled in hexadecimal digits.
-use Rattle.std.specs.Prelude.{◌≡◌, ℕ, ◌+◌, ◌-◌, ◌*◌, ◌<◌, cond, ◌&&◌, List, [], ◌∷◌, Some, None, Option, ◌==◌, nat_le}
+use Rattle.std.specs.Prelude.{ℕ, ◌+◌, ◌-◌, ◌*◌, cond, ◌&&◌, List, [], ◌∷◌, Some, None, Option, ◌==◌, nat_le}
 
 -- ---- words: runs of bytes other than the space
 
@@ -35,11 +35,6 @@ digit b =
     (cond (nat_le 97 b && nat_le b 102) (Some (b - 87))
     (cond (nat_le 65 b && nat_le b 70) (Some (b - 55))
     None))
-
--- the value of a digit as a number, 16 for a byte that is none
-abbrev pub Valued : Option ℕ → ℕ → Type 0
-Valued None v = v ≡ 16
-Valued (Some d) v = (v ≡ d) × (d < 16)
 
 -- two digits as a byte
 abbrev pub pair_of : Option ℕ → Option ℕ → Option ℕ

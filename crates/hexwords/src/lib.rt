@@ -1,30 +1,19 @@
 #![tactic(auto)]
 
-ghost use Rattle.std.specs.Prelude.{◌≡◌, ◌==◌, not, IfOk, option_map, position};
+ghost use Rattle.std.specs.Prelude.{◌≡◌, IfOk, option_map};
 ghost use Rattle.hexwords.specs.Hex.{first_word, after_word, spelled, file_of};
 
 use std::alloc::AllocError;
-
-fn first_space(line: &[u8]) -> Option<usize>
-    ensures { result ≡ position (λ b. b == 32) line.now }
-{
-    line.iter().position(|b| *b == b' ')
-}
-
-fn first_other(line: &[u8]) -> Option<usize>
-    ensures { result ≡ position (λ b. not (b == 32)) line.now }
-{
-    line.iter().position(|b| *b != b' ')
-}
 
 // The first word of a line, and what stands behind it.
 pub fn split_word(line: &[u8]) -> (&[u8], &[u8])
     ensures word { result.0.now ≡ first_word line.now }
     ensures behind { result.1.now ≡ after_word line.now }
 {
-    let start = first_other(line).unwrap_or(line.len());
-    let line = &line[start..];
-    line.split_at(first_space(line).unwrap_or(line.len()))
+    let start = line.iter().position(|b| *b != b' ');
+    let line = &line[start.unwrap_or(line.len())..];
+    let end = line.iter().position(|b| *b == b' ');
+    line.split_at(end.unwrap_or(line.len()))
 }
 
 // The first word of a line: its first run of bytes other than the space.
