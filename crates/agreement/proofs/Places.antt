@@ -10,7 +10,7 @@ use Rattle.rounds.specs.Round.{Outcome, colours}
 use Rattle.compiling.specs.declared.Home.{Home}
 use Rattle.compiling.specs.declared.Home.TheVariants.{Open, Register, Slot}
 use Rattle.compiling.specs.declared.Place.{Place}
-use Rattle.compiling.specs.Working.{Working, Compiled, place_of, is_slot, spilled, round_of}
+use Rattle.compiling.specs.Working.{Working, Compiled, place_of, is_slot, number_of, spilled, round_of}
 use Rattle.compiling.specs.Emit.{registers_of, places_coloured, emitted}
 use Rattle.interfering.specs.Living.{read_at, lives_before}
 use Rattle.interfering.specs.Edges.{Clashes, Hard}
@@ -86,26 +86,26 @@ apart_register m rows reg apart i u v over h = elim (apart.apart i v h.writes h.
 -- ---- the places of a round that coloured
 
 slot_no_register : (x : Home) → is_slot x ≡ true → is_register x ≡ false
-slot_no_register Slot h = refl
+slot_no_register (Slot n) h = refl
 slot_no_register Open h = refl
-slot_no_register Register h = absurd (both_ways false refl h)
+slot_no_register (Register n) h = absurd (both_ways false refl h)
 
 module _ (w : Working) (o : Outcome) where
   slot_was : (v : ℕ) → spilled (places_coloured w o) v ≡ true → (spilled w.places v ≡ true) × (slot_of (places_coloured w o) v ≡ slot_of w.places v)
   slot_was v h = elim (cases_lt v w.source.vars) [
     | inr l ↦ absurd (both_ways false refl (subst (λ (x : Place). is_slot x.home ≡ true) (coloured_past w o v l) h))
     | inl l ↦ elim (cases_Bool (spilled w.places v)) [
-      | inl e ↦ (e, ap (λ (x : Place). x.number) (coloured_at w o v l ∙ cond-true (spilled w.places v) _ _ e))
+      | inl e ↦ (e, ap (λ (x : Place). number_of x.home) (coloured_at w o v l ∙ cond-true (spilled w.places v) _ _ e))
       | inr e ↦ absurd (both_ways false refl (subst (λ (x : Place). is_slot x.home ≡ true) (coloured_at w o v l ∙ cond-false (spilled w.places v) _ _ e) h))
     ]
   ]
 
-  register_was : (v : ℕ) → registered (places_coloured w o) v ≡ true → Unplaced w v × ((place_of (places_coloured w o) v).number ≡ get_or (registers_of o) v 0)
+  register_was : (v : ℕ) → registered (places_coloured w o) v ≡ true → Unplaced w v × (number_of (place_of (places_coloured w o) v).home ≡ get_or (registers_of o) v 0)
   register_was v h = elim (cases_lt v w.source.vars) [
     | inr l ↦ absurd (both_ways false refl (subst (λ (x : Place). is_register x.home ≡ true) (coloured_past w o v l) h))
     | inl l ↦ elim (cases_Bool (spilled w.places v)) [
       | inl e ↦ absurd (both_ways _ (slot_no_register (place_of w.places v).home e) (subst (λ (x : Place). is_register x.home ≡ true) (coloured_at w o v l ∙ cond-true (spilled w.places v) _ _ e) h))
-      | inr e ↦ ((l, e), ap (λ (x : Place). x.number) (coloured_at w o v l ∙ cond-false (spilled w.places v) _ _ e))
+      | inr e ↦ ((l, e), ap (λ (x : Place). number_of x.home) (coloured_at w o v l ∙ cond-false (spilled w.places v) _ _ e))
     ]
   ]
 
@@ -129,11 +129,11 @@ module _ (m : Model) (lawful : Lawful m) (w : Working) (h : Held w) (apart : Apa
     | inr k ↦ apart_register m w.rows (register_in m w) apart i v u (lawful.both_ways _ _ o) (hit w.rows i v u k)
   ]
 
-  overlapping : (u v : ℕ) → registered places u ≡ true → registered places v ≡ true → m.overlaps (place_of places u).number (place_of places v).number ≡ true → Hard w.source.rows u v → ⊥
+  overlapping : (u v : ℕ) → registered places u ≡ true → registered places v ≡ true → m.overlaps (number_of (place_of places u).home) (number_of (place_of places v).home) ≡ true → Hard w.source.rows u v → ⊥
   overlapping u v ru rv o hard =
       let (uu, eu) = register_was w (round_of m w) u ru in
       let (uv, ev) = register_was w (round_of m w) v rv in
-      over u v (subst (λ (y : ℕ). m.overlaps (register_in m w u) y ≡ true) ev (subst (λ (x : ℕ). m.overlaps x (place_of places v).number ≡ true) eu o)) ((hard_edges_transfer w h.start h.standing u v uu uv).into hard)
+      over u v (subst (λ (y : ℕ). m.overlaps (register_in m w u) y ≡ true) ev (subst (λ (x : ℕ). m.overlaps x (number_of (place_of places v).home) ≡ true) eu o)) ((hard_edges_transfer w h.start h.standing u v uu uv).into hard)
 
   no_hard : (u v : ℕ) → Clash m places u v → Hard w.source.rows u v → ⊥
   no_hard u v (inl (su, sv, e)) hard = one_slot u v su sv e hard

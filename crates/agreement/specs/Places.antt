@@ -6,7 +6,7 @@ use Rattle.registers.specs.Model.{Model, Lawful}
 use Rattle.compiling.specs.declared.Home.{Home}
 use Rattle.compiling.specs.declared.Home.TheVariants.{Open, Register, Slot}
 use Rattle.compiling.specs.declared.Place.{Place}
-use Rattle.compiling.specs.Working.{Working, Compiled, place_of, spilled}
+use Rattle.compiling.specs.Working.{Working, Compiled, place_of, number_of, spilled}
 use Rattle.compiling.specs.Compile.{compile_with}
 use Rattle.interfering.specs.Living.{lives_before}
 use Rattle.interfering.specs.Edges.{Hard}
@@ -31,8 +31,8 @@ RoundsFaithful = (files : ℕ → Model) → ((i : ℕ) → Lawful (files i)) �
 -- whether a home is a register
 abbrev pub is_register : Home → Bool
 is_register Open = false
-is_register Register = true
-is_register Slot = false
+is_register (Register n) = true
+is_register (Slot n) = false
 
 -- whether a variable stands in a register
 abbrev pub registered : List Place → ℕ → Bool
@@ -42,7 +42,7 @@ registered places v = is_register (place_of places v).home
 abbrev pub Clash : Model → List Place → ℕ → ℕ → Type 0
 Clash file places u v =
     ((spilled places u ≡ true) × (spilled places v ≡ true) × (slot_of places u ≡ slot_of places v))
-    ⊎ ((registered places u ≡ true) × (registered places v ≡ true) × (file.overlaps (place_of places u).number (place_of places v).number ≡ true))
+    ⊎ ((registered places u ≡ true) × (registered places v ≡ true) × (file.overlaps (number_of (place_of places u).home) (number_of (place_of places v).home) ≡ true))
 
 -- variables whose places clash have no hard edge in the source
 abbrev pub ClashesHarmless : Type 0

@@ -49,10 +49,10 @@ module _ (w : Working) (o : Outcome) where
   out v = has (spill_order w o).out v
 
   abbrev slotted : ℕ → Place
-  slotted v = record { home = Slot; number = slot_in (spill_order w o) v; round = suc w.rounds; hoped = hoped_for o.order (node_at o.graph v) }
+  slotted v = record { home = Slot (slot_in (spill_order w o) v); round = suc w.rounds; hoped = hoped_for o.order (node_at o.graph v) }
 
   abbrev pub kept : ℕ → Place
-  kept v = record { home = Register; number = get_or (registers_of o) v 0; round = suc w.rounds; hoped = hoped_for o.order (node_at o.graph v) }
+  kept v = record { home = Register (get_or (registers_of o) v 0); round = suc w.rounds; hoped = hoped_for o.order (node_at o.graph v) }
 
   out_is : (v : ℕ) → out v ≡ (ltb v vars && has o.spilled (node_at o.graph v))
   unfolding spill_order

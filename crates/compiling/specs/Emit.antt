@@ -43,7 +43,7 @@ unfoldable pub places_coloured : Working → Outcome → List Place
 unfolding registers_of hoped_for range
 places_coloured w o =
     let regs = registers_of o in
-    map (λ v. let new : Place = record { home = Register; number = slice_index regs v; round = suc w.rounds; hoped = hoped_for o.order (node_at o.graph v) } in cond (spilled w.places v) (place_of w.places v) new) (range w.source.vars 0)
+    map (λ v. let new : Place = record { home = Register (slice_index regs v); round = suc w.rounds; hoped = hoped_for o.order (node_at o.graph v) } in cond (spilled w.places v) (place_of w.places v) new) (range w.source.vars 0)
 
 -- a coloured program: its source, the rows of the round, the register of each variable, and the report
 pub record Coloured : Type 0 where

@@ -37,4 +37,4 @@ unfoldable pub places_spilled : Working → Outcome → List Place
 unfolding spill_order hoped_for range
 places_spilled w o =
     let s = spill_order w o in
-    map (λ v. let new : Place = record { home = Slot; number = slot_in s v; round = suc w.rounds; hoped = hoped_for o.order (node_at o.graph v) } in cond (has s.out v) new (place_of w.places v)) (range w.source.vars 0)
+    map (λ v. let new : Place = record { home = Slot (slot_in s v); round = suc w.rounds; hoped = hoped_for o.order (node_at o.graph v) } in cond (has s.out v) new (place_of w.places v)) (range w.source.vars 0)

@@ -27,7 +27,7 @@ pub record Compiled : Type 0 where
 
 -- the place of a variable that no round has placed
 abbrev pub no_place : Place
-no_place = record { home = Open; number = 0; round = 0; hoped = false }
+no_place = record { home = Open; round = 0; hoped = false }
 
 -- the place of variable v
 abbrev pub place_of : List Place → ℕ → Place
@@ -36,8 +36,14 @@ place_of places v = slice_index_or places v no_place
 -- whether a home is a slot
 abbrev pub is_slot : Home → Bool
 is_slot Open = false
-is_slot Register = false
-is_slot Slot = true
+is_slot (Register n) = false
+is_slot (Slot n) = true
+
+-- the number of a home; 0 where it has none
+abbrev pub number_of : Home → ℕ
+number_of Open = 0
+number_of (Register n) = n
+number_of (Slot n) = n
 
 -- whether a variable is spilled
 abbrev pub spilled : List Place → ℕ → Bool

@@ -59,7 +59,7 @@ abbrev pub ticket_of : Token → Working → Ticket
 ticket_of t w = record {
   order = record { out = members t.out; slots = take w.source.vars t.slots };
   given = t.given;
-  places = map (λ v. let new : Place = record { home = Slot; number = slice_index t.slots v; round = suc w.rounds; hoped = has (members t.hoped) v } in cond (has (members t.out) v) new (place_of w.places v)) (range w.source.vars 0);
+  places = map (λ v. let new : Place = record { home = Slot (slice_index t.slots v); round = suc w.rounds; hoped = has (members t.hoped) v } in cond (has (members t.out) v) new (place_of w.places v)) (range w.source.vars 0);
 }
 
 -- the nodes of source variables are variables of the program

@@ -3,25 +3,18 @@
 pub mod draft;
 pub mod token;
 
-ghost use Rattle.std.specs.Prelude.{◌≡◌, length, take, slice_index, slice_index_or};
+ghost use Rattle.std.specs.Prelude.{◌≡◌, ◌≤◌, take, slice_index, slice_index_or};
 ghost use Rattle.sets.specs.Words.{members};
 ghost use Rattle.source.specs.Results.{program_of};
-ghost use Rattle.compiling.specs.Working.{admitted, is_slot as is_slot_of, spilled, unspilled as unspilled_of};
-ghost use Rattle.drafts.specs.Drafts.{working_of};
+ghost use Rattle.compiling.specs.Working.{admitted, place_of as place_in, spilled, unspilled as unspilled_of};
+ghost use Rattle.drafts.specs.Drafts.{working_of, coloured_of};
 
-use compiling::{Home, Place};
+use compiling::Place;
 use draft::Draft;
 use rows::Row;
 use sets::NodeSet;
 use source::program::Source;
 use token::Colouring;
-
-const OPEN: Place = Place {
-    home: Home::Open,
-    number: 0,
-    round: 0,
-    hoped: false,
-};
 
 impl Draft {
     // The draft of an admitted program, before its first round.
@@ -31,24 +24,58 @@ impl Draft {
         Draft {
             source,
             count: source.count,
-            rows: rows_of(&source),
+            rows: extended(&source.rows, Row::END),
             nodes: source.vars,
-            classes: classes_of(&source),
+            classes: extended(&source.classes, 0),
             registers: [0; 448],
             rounds: 0,
             slots: 0,
-            places: [OPEN; 64],
+            places: [Place::OPEN; 64],
         }
+    }
+
+    // The rows of the program.
+    pub fn rows(&self) -> &[Row]
+        ensures { result.now ≡ (working_of self.now).rows }
+    {
+        &self.rows[..self.count]
+    }
+
+    // The class of variable v, or 0 past the last.
+    pub fn class_of(&self, v: usize) -> u8
+        ensures { result ≡ slice_index (working_of self.now).classes v }
+    {
+        self.classes[..self.nodes]
+            .get(v)
+            .copied()
+            .unwrap_or(0)
+    }
+
+    // The register of variable v of a coloured program, or 0 past the last.
+    pub fn register_of(&self, v: usize) -> u8
+        ensures { result ≡ slice_index (coloured_of self.now).registers v }
+    {
+        self.registers[..self.nodes]
+            .get(v)
+            .copied()
+            .unwrap_or(0)
+    }
+
+    // The place of variable v. Past those of the source, no round has placed it.
+    pub fn place_of(&self, v: usize) -> Place
+        ensures { result ≡ place_in (working_of self.now).places v }
+    {
+        self.places[..self.source.vars]
+            .get(v)
+            .copied()
+            .unwrap_or(Place::OPEN)
     }
 
     // Whether a variable stands in a slot. Only those of the source can.
     pub fn is_spilled(&self, v: usize) -> bool
         ensures { result ≡ spilled (working_of self.now).places v }
     {
-        if v >= self.source.vars {
-            return false;
-        }
-        is_slot(self.places[v].home)
+        self.place_of(v).is_slot()
     }
 
     // The variables that are nodes of the next round: those without a slot.
@@ -70,51 +97,28 @@ impl Colouring {
     pub fn node_of(&self, n: usize, v: usize) -> usize
         ensures { result ≡ slice_index_or (take n self.now.node) v v }
     {
-        if v < n && v < 448 {
-            self.node[v] as usize
-        } else {
-            v
-        }
+        self.node[..n.min(448)]
+            .get(v)
+            .map_or(v, |node| *node as usize)
+    }
+
+    // The register of a node, where the first n have registers; 0 for another.
+    pub fn register_of(&self, n: usize, node: usize) -> u8
+        ensures { result ≡ slice_index (take n self.now.registers) node }
+    {
+        self.registers[..n.min(448)]
+            .get(node)
+            .copied()
+            .unwrap_or(0)
     }
 }
 
-// What stands at v among the first n of the bytes, or 0.
-pub fn front_at(bytes: &[u8], n: usize, v: usize) -> u8
-    ensures { result ≡ slice_index (take n bytes.now) v }
+// The elements of a shorter array at the front of a longer one.
+fn extended<T: Copy, const N: usize, const M: usize>(short: &[T; N], filler: T) -> [T; M]
+    requires { N ≤ M }
+    ensures { take N result ≡ short.now }
 {
-    if v < n && v < bytes.len() {
-        bytes[v]
-    } else {
-        0
-    }
-}
-
-fn is_slot(home: Home) -> bool
-    ensures { result ≡ is_slot_of home }
-{
-    matches!(home, Home::Slot)
-}
-
-// The rows of a source program at the front of a working program's.
-fn rows_of(source: &Source) -> [Row; 512]
-    ensures front { take 128 result ≡ source.now.rows }
-    ensures size { length result ≡ 512 }
-{
-    let mut rows = [Row::END; 512];
-    for i in 0..128 {
-        rows[i] = source.rows[i];
-    }
-    rows
-}
-
-// The classes of a source program at the front of a working program's.
-fn classes_of(source: &Source) -> [u8; 448]
-    ensures front { take 64 result ≡ source.now.classes }
-    ensures size { length result ≡ 448 }
-{
-    let mut classes = [0; 448];
-    for v in 0..64 {
-        classes[v] = source.classes[v];
-    }
-    classes
+    let mut long = [filler; M];
+    long[..N].copy_from_slice(short);
+    long
 }

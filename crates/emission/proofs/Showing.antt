@@ -17,24 +17,33 @@ use Rattle.layout.proofs.Lists.{range_ext}
 use Rattle.emission.specs.Emission.{node_register, place_after}
 
 pub registers_shown : (d : Draft) (end : Colouring) (o : Outcome) (regs : List ℕ) → Shows d.nodes end o → regs ≡ map (node_register d end) (take d.nodes end.node) → regs ≡ registers_of o
-unfolding node_register registers_of
+unfolding registers_of
 registers_shown d end o regs s e =
     e ∙ ap (λ (ns : List ℕ). map (λ v. get_or (take d.nodes end.registers) v 0) ns) s.node ∙ ap (λ (rs : List ℕ). map (λ v. get_or rs v 0) o.graph.node) s.registers
 
 -- a place by its parts
 placed : Bool → Place → ℕ → ℕ → Bool → Place
-placed stays was number round hoped = let new : Place = record { home = Register; number = number; round = round; hoped = hoped } in cond stays was new
+placed stays was number round hoped = let new : Place = record { home = Register number; round = round; hoped = hoped } in cond stays was new
 
-place_shown : (d : Draft) (end : Colouring) (o : Outcome) (registers : List ℕ) (round v : ℕ) → Shows d.nodes end o → take d.nodes registers ≡ registers_of o → round ≡ suc d.rounds → node_at o.graph v < d.nodes →
-    place_after d end registers round v ≡ placed (spilled (working_of d).places v) (place_of (working_of d).places v) (get_or (registers_of o) v 0) (suc d.rounds) (hoped_for o.order (node_at o.graph v))
+-- a draft that has the registers and the number of its round, and the places before it
+pub record Marked (d : Draft) (o : Outcome) (n : Draft) : Type 0 where
+  pub nodes : n.nodes ≡ d.nodes
+  pub registers : take n.nodes n.registers ≡ registers_of o
+  pub rounds : n.rounds ≡ suc d.rounds
+  pub vars : n.source.vars ≡ d.source.vars
+  pub places : n.places ≡ d.places
+
+place_shown : (d n : Draft) (end : Colouring) (o : Outcome) (v : ℕ) → Shows d.nodes end o → Marked d o n → node_at o.graph v < d.nodes →
+    place_after n end v ≡ placed (spilled (working_of d).places v) (place_of (working_of d).places v) (get_or (registers_of o) v 0) (suc d.rounds) (hoped_for o.order (node_at o.graph v))
 unfolding place_after placed
-place_shown d end o registers round v s er en l =
+place_shown d n end o v s m l =
     let hoped : has (members end.hoped) (get_or (take d.nodes end.node) v v) ≡ hoped_for o.order (node_at o.graph v) = rw s.node (s.hoped (node_at o.graph v) l) in
-    rw (er, en, hoped)
+    rw (m.registers, m.rounds, m.vars, m.places, m.nodes, hoped)
 
-pub places_shown : (d : Draft) (end : Colouring) (o : Outcome) (registers : List ℕ) (round : ℕ) (places : List Place) → Shows d.nodes end o → Inside (working_of d) o → take d.nodes registers ≡ registers_of o → round ≡ suc d.rounds →
-    places ≡ map (place_after d end registers round) (range d.source.vars 0) → places ≡ places_coloured (working_of d) o
+pub places_shown : (d n : Draft) (end : Colouring) (o : Outcome) (places : List Place) → Shows d.nodes end o → Inside (working_of d) o → Marked d o n →
+    places ≡ map (place_after n end) (range n.source.vars 0) → places ≡ places_coloured (working_of d) o
 unfolding places_coloured placed
-places_shown d end o registers round places s i er en e =
-    let n : length (take d.nodes d.classes) ≡ d.nodes = length-take-le d.nodes d.classes (omega (arith, d.few, d.whole)) in
-    e ∙ range_ext (place_after d end registers round) (λ v. placed (spilled (working_of d).places v) (place_of (working_of d).places v) (get_or (registers_of o) v 0) (suc d.rounds) (hoped_for o.order (node_at o.graph v))) d.source.vars 0 (λ v l. place_shown d end o registers round v s er en (omega (arith, i v (omega arith))))
+places_shown d n end o places s i m e =
+    let k : length (take d.nodes d.classes) ≡ d.nodes = length-take-le d.nodes d.classes (omega (arith, d.few, d.whole)) in
+    e ∙ ap (λ (k : ℕ). map (place_after n end) (range k 0)) m.vars
+    ∙ range_ext (place_after n end) (λ v. placed (spilled (working_of d).places v) (place_of (working_of d).places v) (get_or (registers_of o) v 0) (suc d.rounds) (hoped_for o.order (node_at o.graph v))) d.source.vars 0 (λ v l. place_shown d n end o v s m (omega (arith, i v (omega arith))))

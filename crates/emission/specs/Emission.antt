@@ -1,5 +1,5 @@
 -- Registers and places by what a draft and the end of its round hold.
-use Rattle.std.specs.Prelude.{ℕ, cond, List, take, slice_index, slice_index_or}
+use Rattle.std.specs.Prelude.{ℕ, cond, Some, None, Option, List, take, slice_index, slice_index_or}
 use Rattle.sets.specs.Sets.{has}
 use Rattle.sets.specs.Words.{members}
 use Rattle.compiling.specs.declared.Home.TheVariants.{Register}
@@ -10,17 +10,22 @@ use Rattle.drafts.specs.declared.token.Colouring.{Colouring}
 use Rattle.drafts.specs.Drafts.{working_of, coloured_of}
 
 -- the register of a variable of a coloured draft
-unfoldable pub register_in : Draft → ℕ → ℕ
+abbrev pub register_in : Draft → ℕ → ℕ
 register_in d v = slice_index (coloured_of d).registers v
 
+-- the register of the variable that a field names, if it names one
+abbrev pub register_or : (ℕ → ℕ) → Option ℕ → ℕ
+register_or reg None = 0
+register_or reg (Some v) = reg v
+
 -- the register of a node at the end of a draft's round
-unfoldable pub node_register : Draft → Colouring → ℕ → ℕ
+abbrev pub node_register : Draft → Colouring → ℕ → ℕ
 node_register d end v = slice_index (take d.nodes end.registers) v
 
--- the place of a variable after a round that coloured
-unfoldable pub place_after : Draft → Colouring → List ℕ → ℕ → ℕ → Place
+-- the place of a variable after a round that coloured, in a draft that has its registers and the number of the round
+unfoldable pub place_after : Draft → Colouring → ℕ → Place
 unfolding has
-place_after d end registers round v =
+place_after d end v =
     let places = (working_of d).places in
-    let new : Place = record { home = Register; number = slice_index (take d.nodes registers) v; round = round; hoped = has (members end.hoped) (slice_index_or (take d.nodes end.node) v v) } in
+    let new : Place = record { home = Register (slice_index (coloured_of d).registers v); round = d.rounds; hoped = has (members end.hoped) (slice_index_or (take d.nodes end.node) v v) } in
     cond (spilled places v) (place_of places v) new

@@ -1,6 +1,6 @@
 -- The rows and the starts of blocks in a line, one block more.
-use Rattle.std.proofs.Common.{◌≡◌, ℕ, suc, ◌+◌, ◌≤◌, List, [], ◌∷◌, ◌++◌, map, length, take, sym, refl, ap, ◌∙◌, add-zero, add_assoc, zero-add, arith}
-use Rattle.std.proofs.lemmas.List.{append_assoc, append-nil, length-append, length_push, take_all}
+use Rattle.std.proofs.Common.{◌≡◌, ℕ, suc, ◌+◌, ◌<◌, ◌≤◌, List, [], ◌∷◌, ◌++◌, map, length, get_or, take, sym, refl, ap, ◌∙◌, add-zero, add_assoc, zero-add, arith}
+use Rattle.std.proofs.lemmas.List.{append_assoc, append-nil, length-append, length_push, map_more, take_all}
 use Rattle.rows.specs.declared.Row.{Row}
 use Rattle.compiling.specs.Blocks.{flat, starts, moved, assembled}
 use Rattle.layout.specs.Layouts.{Holds}
@@ -40,3 +40,7 @@ holds_more rows rows' at at' bs b h ea er = record {
 pub holds_assembled : (rows rows' : List Row) (at : List ℕ) (bs : List (List Row)) → Holds rows at bs → length (flat bs) ≤ 512 → length bs ≤ 512 → rows' ≡ map (moved at) rows → rows' ≡ assembled bs
 unfolding assembled
 holds_assembled rows rows' at bs h few short e = rw (e, h.begins few short, h.front, take_all 512 (flat bs) few)
+
+-- blocks that a function makes of rows, those of one row more
+pub holds_row : (f : Row → List Row) (rs : List Row) (i : ℕ) (d : Row) → i < length rs → {rows rows' : List Row} {at at' : List ℕ} → Holds rows at (map f (take i rs)) → at' ≡ take 512 (at ++ length rows ∷ []) → rows' ≡ take 512 (rows ++ f (get_or rs i d)) → Holds rows' at' (map f (take (i + 1) rs))
+holds_row f rs i d l h ea er = rw (map_more f rs i d l) (holds_more _ _ _ _ (map f (take i rs)) (f (get_or rs i d)) h ea er)

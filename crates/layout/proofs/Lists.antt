@@ -1,20 +1,9 @@
 -- Lists that keep no more than 512 of their elements.
-use Rattle.std.proofs.Common.{◌≡◌, ℕ, zero, suc, ◌+◌, ◌<◌, ◌≤◌, List, [], ◌∷◌, ◌++◌, map, length, get_or, take, set, sym, refl, ap, ◌∙◌, inl, inr, add-zero, zero-add, add-one, arith}
+use Rattle.std.proofs.Common.{◌≡◌, ℕ, zero, suc, ◌+◌, ◌<◌, ◌≤◌, List, [], ◌∷◌, ◌++◌, map, length, get_or, take, set, sym, refl, ap, ◌∙◌, inl, inr, add-zero, zero-add, add-one, arith, length-take}
+use lib.ListN.{length-map}
 use Rattle.std.proofs.lemmas.List.{take_more_set, take_all, take_at, take-append-le, length-take-le, length_push, map_more, map_push}
 use Rattle.std.proofs.lemmas.Bool.{cases_lt}
 use Rattle.counting.specs.Counting.{range}
-
--- one element more, where there is room
-pub push_room : {A : Type 0} (m : ℕ) (xs : List A) (n : ℕ) (y : A) → length xs ≡ m → n < m → take (n + 1) (set xs n y) ≡ take m (take n xs ++ y ∷ [])
-push_room m xs n y e l =
-    let k : length (take n xs ++ y ∷ []) ≤ m = rw (length_push (take n xs) y, length-take-le n xs (omega arith)) (omega arith) in
-    take_more_set xs n y (omega arith) ∙ sym (take_all m (take n xs ++ y ∷ []) k)
-
--- and where there is none
-pub push_full : {A : Type 0} (m : ℕ) (xs : List A) (n : ℕ) (y : A) → length xs ≡ m → m ≤ n → take n xs ≡ take m (take n xs ++ y ∷ [])
-push_full m xs n y e l =
-    let all = take_all n xs (omega arith) in
-    rw (all, take_at xs (y ∷ []) m e)
 
 -- what was cut off stays off
 pub front_append : {A : Type 0} (m : ℕ) (xs ys : List A) → take m (take m xs ++ ys) ≡ take m (xs ++ ys)
@@ -23,6 +12,12 @@ front_append m xs ys =
       | inl l ↦ rw (take_all m xs (omega arith))
       | inr l ↦ take_at (take m xs) ys m (length-take-le m xs l) ∙ sym (take-append-le m xs ys l)
     ]
+
+-- a list of the results of a function, one more of them pushed where there is room
+pub mapped_push : {A B : Type 0} (m : ℕ) (f : A → B) (ys : List A) (i : ℕ) (d : A) → length ys ≤ m → i < length ys → {xs xs' : List B} {y : B} → xs ≡ map f (take i ys) → y ≡ f (get_or ys i d) → xs' ≡ take m (xs ++ y ∷ []) → xs' ≡ map f (take (i + 1) ys)
+mapped_push m f ys i d few l e h g =
+    let all : length (take (i + 1) ys) ≤ m = simp length-take (omega arith) in
+    g ∙ rw (e, h, ← (map_more f ys i d l)) (take_all m (map f (take (i + 1) ys)) (rw (length-map (take (i + 1) ys) f) all))
 
 -- an array filled by a function of another list's elements, one element more
 pub mapped_more : {A B : Type 0} (f : A → B) (xs : List B) (ys : List A) (i : ℕ) (y : B) (d : A) → i < length xs → i < length ys → take i xs ≡ map f (take i ys) → y ≡ f (get_or ys i d) → take (i + 1) (set xs i y) ≡ map f (take (i + 1) ys)

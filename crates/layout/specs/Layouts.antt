@@ -2,15 +2,6 @@
 use Rattle.std.specs.Prelude.{◌≡◌, ℕ, ◌≤◌, List, length, take}
 use Rattle.rows.specs.declared.Row.{Row}
 use Rattle.compiling.specs.Blocks.{flat, starts}
-use Rattle.layout.specs.declared.blocks.Layout.{Layout}
-
--- the rows of all blocks so far
-abbrev pub rows_in : Layout → List Row
-rows_in l = take l.count l.rows
-
--- where each block so far starts
-abbrev pub starts_in : Layout → List ℕ
-starts_in l = take l.blocks l.starts
 
 -- rows and starts are those of blocks, as far as there is room
 pub record Holds (rows : List Row) (at : List ℕ) (bs : List (List Row)) : Type 0 where

@@ -1,14 +1,12 @@
-ghost use Rattle.std.specs.Prelude.{◌≡◌, ◌≤◌, length};
+ghost use Rattle.std.specs.Prelude.{◌≤◌, length};
 
+use crate::few::Few;
 use rows::Row;
 
-// Blocks in a line: the first `count` of the rows, and the first `blocks` of the starts, one for each block.
-#[derive(Clone, Copy)]
+// Blocks in a line, as far as there is room: the rows of all of them, and where each one starts.
+#[derive(Drop)]
 pub struct Layout {
-    pub rows: [Row; 512],
-    pub count: usize,
-    pub starts: [u16; 512],
-    pub blocks: usize,
-    ghost few: { (count ≤ 512) × (blocks ≤ 512) },
-    ghost whole: { (length rows ≡ 512) × (length starts ≡ 512) },
+    pub rows: Few<Row, 512>,
+    pub starts: Few<u16, 512>,
+    ghost few: { (length rows ≤ 512) × (length starts ≤ 512) },
 }

@@ -1,87 +1,66 @@
 #![tactic(auto)]
 
 pub mod blocks;
+pub mod few;
 
 ghost use Rattle.std.specs.Prelude.{◌≡◌, [], ◌∷◌, ◌++◌, map, length, take, slice_index};
 ghost use Rattle.compiling.specs.Blocks.{moved as moved_by};
-ghost use Rattle.layout.specs.Layouts.{rows_in, starts_in};
 
 use blocks::Layout;
+use few::Few;
 use rows::Row;
 
 impl Layout {
     pub fn new() -> Layout
-        ensures rows { rows_in result ≡ [] }
-        ensures starts { starts_in result ≡ [] }
+        ensures rows { result.rows ≡ [] }
+        ensures starts { result.starts ≡ [] }
     {
         Layout {
-            rows: [Row::END; 512],
-            count: 0,
-            starts: [0; 512],
-            blocks: 0,
+            rows: Few::empty(Row::END),
+            starts: Few::empty(0),
         }
     }
 
     // Begins a block behind the rows so far.
     pub fn open(&mut self)
-        ensures rows { rows_in self.new ≡ rows_in self.old }
-        ensures starts { starts_in self.new ≡ take 512 (starts_in self.old ++ length (rows_in self.old) ∷ []) }
+        ensures rows { self.new.rows ≡ self.old.rows }
+        ensures starts { self.new.starts ≡ take 512 (self.old.starts ++ length self.old.rows ∷ []) }
     {
-        if self.blocks < 512 {
-            self.starts[self.blocks] = self.count as u16;
-            self.blocks += 1;
-        }
+        self.starts.push(self.rows.len() as u16);
     }
 
     // Adds a row to the last block, if there is room.
     pub fn push(&mut self, row: Row)
-        ensures rows { rows_in self.new ≡ take 512 (rows_in self.old ++ row ∷ []) }
-        ensures starts { starts_in self.new ≡ starts_in self.old }
+        ensures rows { self.new.rows ≡ take 512 (self.old.rows ++ row ∷ []) }
+        ensures starts { self.new.starts ≡ self.old.starts }
     {
-        if self.count < 512 {
-            self.rows[self.count] = row;
-            self.count += 1;
-        }
+        self.rows.push(row);
     }
 
     // The rows with their targets moved to the starts of blocks.
-    pub fn moved(&self) -> [Row; 512]
-        ensures front { take self.now.count result ≡ map (moved_by (starts_in self.now)) (rows_in self.now) }
-        ensures size { length result ≡ 512 }
+    pub fn moved(&self) -> Few<Row, 512>
+        ensures { result ≡ map (moved_by self.now.starts) self.now.rows }
     {
-        let mut rows = [Row::END; 512];
-        for i in 0..self.count {
-            rows[i] = self.moved_row(self.rows[i]);
+        let mut moved = Few::empty(Row::END);
+        for row in self.rows.as_slice() {
+            moved.push(self.moved_row(*row));
         }
-        rows
+        moved
     }
 
     fn moved_row(&self, row: Row) -> Row
-        ensures { result ≡ moved_by (starts_in self.now) row }
+        ensures { result ≡ moved_by self.now.starts row }
     {
-        let target = if row.op.shape().target {
-            self.start(row.target as usize)
-        } else {
-            0
-        };
         Row {
-            op: row.op,
-            weight: row.weight,
-            dclass: row.dclass,
-            aclass: row.aclass,
-            d: row.d,
-            a: row.a,
-            b: row.b,
-            target,
-            constant: row.constant,
-            slot: row.slot,
+            target: row.target_row().map_or(0, |target| self.start(target)),
+            ..row
         }
     }
 
     // Where block i starts, or 0 past the last.
-    fn start(&self, i: usize) -> u16
-        ensures { result ≡ slice_index (starts_in self.now) i }
+    fn start(&self, i: u16) -> u16
+        ensures { result ≡ slice_index self.now.starts i }
     {
-        if i < self.blocks { self.starts[i] } else { 0 }
+        self.starts.as_slice().get(i as usize).copied().unwrap_or(0)
     }
 }

@@ -52,7 +52,7 @@ ticket_same s t a b x y e f g = cc
 
 -- a place by its parts
 unfoldable pub placed : Bool → ℕ → ℕ → Bool → Place → Place
-placed out number round hoped was = let new : Place = record { home = Slot; number = number; round = round; hoped = hoped } in cond out new was
+placed out number round hoped was = let new : Place = record { home = Slot number; round = round; hoped = hoped } in cond out new was
 
 module _ (d : Draft) (end : Colouring) (o : Outcome) (s : Shows d.nodes end o) (small : Small (working_of d) o) where
   nodes_length : length (take d.nodes d.classes) ≡ d.nodes

@@ -85,5 +85,5 @@ pub record Grows (p q : Page) (rows : List Row) (classes : List ℕ) : Type 0 wh
 unfoldable pub place_spilled : Draft → Token → ℕ → ℕ → Place
 unfolding has
 place_spilled d t round v =
-    let new : Place = record { home = Slot; number = slice_index t.slots v; round = round; hoped = has (members t.hoped) v } in
+    let new : Place = record { home = Slot (slice_index t.slots v); round = round; hoped = has (members t.hoped) v } in
     cond (has (members t.out) v) new (place_of (working_of d).places v)

@@ -109,8 +109,7 @@ fn place_of(draft: &Draft, token: &Token, round: u8, v: usize) -> Place
         return draft.places[v];
     }
     Place {
-        home: Home::Slot,
-        number: token.slots[v],
+        home: Home::Slot(token.slots[v]),
         round,
         hoped: token.hoped.contains(v),
     }

@@ -23,7 +23,7 @@ abbrev work : List Row
 work = row Const 1 0 5 ∷ row Store 0 1 0 ∷ row Load 2 0 0 ∷ row Output 0 2 0 ∷ row End 0 0 0 ∷ []
 
 abbrev places : List Place
-places = record { home = Slot; number = 0; round = 1; hoped = false } ∷ []
+places = record { home = Slot 0; round = 1; hoped = false } ∷ []
 
 abbrev last : Working
 last = record { source = program; rows = work; classes = 0 ∷ 0 ∷ 0 ∷ []; rounds = 1; slots = 1; places = places }

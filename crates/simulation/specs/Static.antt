@@ -5,7 +5,7 @@ use Rattle.rows.specs.declared.Row.{Row}
 use Rattle.rows.specs.Rows.{shape, copies, Program, row_at}
 use Rattle.registers.specs.Model.{Model, Lawful}
 use Rattle.compiling.specs.declared.Place.{Place}
-use Rattle.compiling.specs.Working.{Working, Compiled, place_of, spilled}
+use Rattle.compiling.specs.Working.{Working, Compiled, place_of, number_of, spilled}
 use Rattle.compiling.specs.Blocks.{assembled}
 use Rattle.compiling.specs.Emit.{idle, code_block}
 use Rattle.machine.specs.Agreement.{Agreeing}
@@ -40,7 +40,7 @@ pub record Lively (w : ℕ → Row) (live : ℕ → ℕ → Bool) : Type 0 where
 
 -- the slot of a spilled variable
 abbrev pub slot_of : List Place → ℕ → ℕ
-slot_of places v = (place_of places v).number
+slot_of places v = number_of (place_of places v).home
 
 -- slots are shared only harmlessly: what is live after a row in the slot that the row writes is what the row copies; there are 64 slots
 pub record Shares (p : Program) (live : ℕ → ℕ → Bool) (places : List Place) : Type 0 where

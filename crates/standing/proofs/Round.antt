@@ -7,7 +7,7 @@ use Rattle.rows.specs.declared.Op.TheVariants.{Copy, Load, Store}
 use Rattle.rows.specs.declared.Row.{Row}
 use Rattle.rows.specs.Rows.{shape, copies, Program, row_at}
 use Rattle.compiling.specs.declared.Place.{Place}
-use Rattle.compiling.specs.Working.{place_of, is_slot, spilled}
+use Rattle.compiling.specs.Working.{place_of, is_slot, number_of, spilled}
 use Rattle.compiling.specs.Spill.{Order, slot_in}
 use Rattle.compiling.specs.Rewrite.{class_in, inner}
 use Rattle.simulation.specs.Static.{row_of, class_of, slot_of, Loads, Operand, Stored, Block, Inner}
@@ -41,7 +41,7 @@ module _ (p : Program) (places after : List Place) (s : Order) (classes : List �
   stays_out v y = ap (λ (z : Place). is_slot z.home) (fr.old v (was_out v y)) ∙ y
 
   pub slot_stays : (v : ℕ) → spilled places v ≡ true → slot_of after v ≡ slot_of places v
-  slot_stays v y = ap (λ (z : Place). z.number) (fr.old v (was_out v y))
+  slot_stays v y = ap (λ (z : Place). number_of z.home) (fr.old v (was_out v y))
 
   pub stays_in : (v : ℕ) → spilled places v ≡ false → has s.out v ≡ false → spilled after v ≡ false
   stays_in v y n = ap (λ (z : Place). is_slot z.home) (fr.old v n) ∙ y

@@ -9,7 +9,7 @@ use Rattle.rounds.specs.Interference.{node_at}
 use Rattle.rounds.specs.Round.{Outcome, hoped_for}
 use Rattle.compiling.specs.declared.Home.TheVariants.{Slot}
 use Rattle.compiling.specs.declared.Place.{Place}
-use Rattle.compiling.specs.Working.{Working, no_place, place_of, is_slot, spilled}
+use Rattle.compiling.specs.Working.{Working, no_place, place_of, is_slot, number_of, spilled}
 use Rattle.compiling.specs.Spill.{Order, slot_in, spill_order, slots_after, places_spilled}
 use Rattle.simulation.specs.Static.{slot_of}
 use Rattle.standing.specs.Standing.{bit, Standing, Spills, SlotOfNode}
@@ -50,7 +50,7 @@ module _ (w : Working) (start : ℕ → ℕ) (o : Outcome) (st : Standing w star
       ∙ ap (λ (v : ℕ). w.slots + size (node_at o.graph v) o.spilled) (range_at vars 0 v h ∙ zero-add v)
 
   abbrev given : ℕ → Place
-  given v = record { home = Slot; number = slot_in ord v; round = suc w.rounds; hoped = hoped_for o.order (node v) }
+  given v = record { home = Slot (slot_in ord v); round = suc w.rounds; hoped = hoped_for o.order (node v) }
 
   place_is : (v : ℕ) → v < vars → place_of after v ≡ cond (has ord.out v) (given v) (place_of w.places v)
   unfolding places_spilled
@@ -69,7 +69,7 @@ module _ (w : Working) (start : ℕ → ℕ) (o : Outcome) (st : Standing w star
   fresh = record {
     vars = λ v y. (out_parts v y).0;
     new = λ v y. let e = out_parts v y in sp.members v e.0 e.1;
-    now = λ v y. let e = place_is v (out_parts v y).0 ∙ cond-true _ _ _ y in (ap (λ (z : Place). is_slot z.home) e, ap (λ (z : Place). z.number) e);
+    now = λ v y. let e = place_is v (out_parts v y).0 ∙ cond-true _ _ _ y in (ap (λ (z : Place). is_slot z.home) e, ap (λ (z : Place). number_of z.home) e);
     old = λ v n. elim (cases_lt v vars) [
       | inl h ↦ place_is v h ∙ cond-false _ _ _ n
       | inr h ↦ get_or_past after v no_place (omega (arith, places_length)) ∙ sym (get_or_past w.places v no_place (omega (arith, st.places)))
@@ -144,7 +144,7 @@ module _ (w : Working) (start : ℕ → ℕ) (o : Outcome) (st : Standing w star
   ]
     where
       was : (x : ℕ) → has ord.out x ≡ false → spilled after x ≡ true → (spilled w.places x ≡ true) × (slot_of after x ≡ slot_of w.places x)
-      was x n y = (sym (ap (λ (z : Place). is_slot z.home) (fresh.old x n)) ∙ y, ap (λ (z : Place). z.number) (fresh.old x n))
+      was x n y = (sym (ap (λ (z : Place). is_slot z.home) (fresh.old x n)) ∙ y, ap (λ (z : Place). number_of z.home) (fresh.old x n))
 
 pub slot_of_node : SlotOfNode
 slot_of_node w start o st sp = shared w start o st sp

@@ -38,8 +38,8 @@ code o weight dclass aclass d a b x = record {
 
 -- a variable in a register
 abbrev pub in_register : (number round : ℕ) → Bool → Place
-in_register number round hoped = record { home = Register; number = number; round = round; hoped = hoped }
+in_register number round hoped = record { home = Register number; round = round; hoped = hoped }
 
 -- a variable in a slot
 abbrev pub in_slot : (number round : ℕ) → Bool → Place
-in_slot number round hoped = record { home = Slot; number = number; round = round; hoped = hoped }
+in_slot number round hoped = record { home = Slot number; round = round; hoped = hoped }

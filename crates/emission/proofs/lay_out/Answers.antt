@@ -1,21 +1,16 @@
-use Rattle.std.proofs.Common.{map, get_or, take, arith}
-use Rattle.std.proofs.lemmas.List.{map_more}
-use Rattle.rows.specs.Rows.{end_row}
+use Rattle.std.proofs.Common.{◌<◌, length, ap, arith}
 use Rattle.compiling.specs.Emit.{code_block}
-use Rattle.layout.specs.Layouts.{rows_in, starts_in}
-use Rattle.layout.proofs.Holding.{holds_none, holds_more}
+use Rattle.drafts.specs.Drafts.{working_of}
+use Rattle.layout.proofs.Holding.{holds_none, holds_row}
 use Rattle.emission.specs.Emission.{register_in}
 use Rattle.emission.proofs.lay_out.Goals as goal
 
-pub loop-i-init : goal.loop-i-init
-loop-i-init c = holds_none _ _ c.new-code.ensures.rows c.new-code.ensures.starts
+pub loop-row-init : goal.loop-row-init
+loop-row-init c = holds_none _ _ c.new-code.ensures.rows c.new-code.ensures.starts
 
-pub loop-i-preserved : goal.loop-i-preserved
-loop-i-preserved c =
-    let d = c.args.draft.now in
-    let l = c.loop-i.code in
-    let l' = c.lay_block.new.code in
-    let f = code_block (register_in d) in
-    let i = c.loop-i.i in
-    let more = map_more f d.rows i end_row (omega (arith, d.few, d.whole)) in
-    rw more (holds_more (rows_in l) (rows_in l') (starts_in l) (starts_in l') (map f (take i d.rows)) (f (get_or d.rows i end_row)) c.loop-i.invariant c.lay_block.ensures.starts c.lay_block.ensures.rows)
+pub loop-row-preserved : goal.loop-row-preserved
+loop-row-preserved c =
+    let rows = (working_of c.args.draft.now).rows in
+    let items = c.rows-row-items.ensures in
+    let here : c.loop-row.row-index < length rows = omega (arith, ap length items, c.loop-row-test.true) in
+    holds_row (code_block (register_in c.args.draft.now)) rows c.loop-row.row-index _ here c.loop-row.invariant c.lay_block.ensures.starts (rw items at c.lay_block.ensures.rows)

@@ -11,4 +11,4 @@ loop-v-init c = (refl, c.args.draft.now.whole.3)
 pub loop-v-preserved : goal.loop-v-preserved
 loop-v-preserved c =
     let d = c.args.draft.now in
-    (filled_more (place_after d c.args.end.now c.args.registers.now c.args.round) c.loop-v.places c.loop-v.v c.place_of.result (omega (arith, d.source.few)) c.loop-v.invariant.0 c.place_of.ensures, simp length-set c.loop-v.invariant.1)
+    (filled_more (place_after d c.args.end.now) c.loop-v.places c.loop-v.v c.place_of.result (omega (arith, d.source.few)) c.loop-v.invariant.0 c.place_of.ensures, simp length-set c.loop-v.invariant.1)

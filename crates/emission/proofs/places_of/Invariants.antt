@@ -4,4 +4,4 @@ use Rattle.emission.specs.Emission.{place_after}
 use Rattle.emission.proofs.places_of.Given as goal
 
 abbrev pub invariant-loop-v : goal.invariant-loop-v
-invariant-loop-v l = (take l.v l.places ≡ map (place_after l.draft l.end l.registers l.round) (range l.v 0)) × (length l.places ≡ 64)
+invariant-loop-v l = (take l.v l.places ≡ map (place_after l.draft l.end) (range l.v 0)) × (length l.places ≡ 64)

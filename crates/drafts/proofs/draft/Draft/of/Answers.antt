@@ -6,7 +6,7 @@ use Rattle.drafts.proofs.draft.Draft.of.Goals as goal
 pub returns : goal.returns
 returns c =
     let s = c.args.source in
-    let rows = front_less c.rows_of.result s.rows s.count 128 s.most c.rows_of.ensures.front in
-    let classes = front_less c.classes_of.result s.classes s.vars 64 s.few c.classes_of.ensures.front in
+    let rows = front_less c.extended.result s.rows s.count 128 s.most c.extended.ensures in
+    let classes = front_less c.extended-2.result s.classes s.vars 64 s.few c.extended-2.ensures in
     let places = take-replicate s.vars 64 no_place s.few in
     cc

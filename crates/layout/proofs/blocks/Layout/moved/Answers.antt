@@ -1,11 +1,12 @@
-use Rattle.std.proofs.Common.{arith, length-set}
-use Rattle.rows.specs.Rows.{end_row}
+use Rattle.std.proofs.Common.{◌<◌, length, sym, ap, ◌∙◌, arith}
+use Rattle.std.proofs.lemmas.List.{map_more}
 use Rattle.compiling.specs.Blocks.{moved}
-use Rattle.layout.specs.Layouts.{starts_in}
-use Rattle.layout.proofs.Lists.{mapped_more}
+use Rattle.layout.proofs.Lists.{mapped_push}
 use Rattle.layout.proofs.blocks.Layout.moved.Goals as goal
 
-pub loop-i-preserved : goal.loop-i-preserved
-loop-i-preserved c =
-    let l = c.args.self.now in
-    (mapped_more (moved (starts_in l)) c.loop-i.rows l.rows c.loop-i.i c.moved_row.result end_row (omega (arith, l.few)) (omega (arith, l.few, l.whole)) c.loop-i.invariant.0 c.moved_row.ensures, simp length-set c.loop-i.invariant.1)
+pub loop-row-preserved : goal.loop-row-preserved
+loop-row-preserved c =
+    let rows = c.args.self.now.rows in
+    let items = c.as_slice-row-items.ensures.items in
+    let here : c.loop-row.row-index < length rows = omega (arith, ap length items, c.loop-row-test.true) in
+    mapped_push 512 (moved c.args.self.now.starts) rows c.loop-row.row-index _ c.as_slice-row-items.ensures.fits here c.loop-row.invariant (rw items at c.moved_row.ensures) c.push.ensures.items
