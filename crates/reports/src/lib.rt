@@ -3,6 +3,7 @@
 ghost use Rattle.std.specs.Prelude.{◌≡◌};
 ghost use Rattle.faults.specs.Refusals.{program_refusal};
 ghost use Rattle.reports.specs.Names.{class_name as class_name_of, op_name as op_name_of};
+ghost use Rattle.reports.specs.Fields.{fields as fields_of};
 ghost use Rattle.reports.specs.Places.{bit_place as bit_place_of, row_place as row_place_of, place_of, place_number, row_bytes as row_bytes_of};
 
 use answers::layer_name;
@@ -70,17 +71,13 @@ impl fmt::Display for Place {
 pub fn row_bytes(file: &[u8], i: u16) -> &[u8]
     ensures { result.now ≡ row_bytes_of file.now i }
 {
-    if file.len() == 0 {
-        return file;
-    }
-    let vars = file[0] as usize;
+    let vars = file.first().copied().unwrap_or(0) as usize;
     let start = 2 + (2 * vars + 7) / 8 + 4 * i as usize;
-    let first = start.min(file.len());
-    let rest = &file[first..];
-    let count = rest.len().min(4);
-    &rest[0..count]
+    let rest = file.get(start..).unwrap_or(&[]);
+    rest.get(..4).unwrap_or(rest)
 }
 
+// A cause in words, by layers; a Display for each would be the same match with a write around it.
 fn bit_cause(fault: BitFault) -> &'static str {
     match fault {
         BitFault::Short => "the file is too short for its variables and rows",
@@ -142,7 +139,7 @@ impl fmt::Display for Explained<'_> {
     }
 }
 
-// The name of a class.
+// The name of a class: a text, for a text fills up its column by itself.
 pub fn class_name(class: u8) -> &'static str
     ensures { result.now ≡ class_name_of class }
 {
@@ -154,7 +151,7 @@ pub fn class_name(class: u8) -> &'static str
     }
 }
 
-// The name of an opcode.
+// The name of an opcode: a text, for a text fills up its column by itself.
 pub fn op_name(op: Op) -> &'static str
     ensures { result.now ≡ op_name_of op }
 {
@@ -177,21 +174,28 @@ pub fn op_name(op: Op) -> &'static str
     }
 }
 
-// An operand of a row, behind a letter for what it is.
+// A field of a row that is in use: a variable or a register with its class, a constant, a target or a slot.
 #[derive(Clone, Copy)]
-struct Operand {
-    letter: char,
-    number: u16,
-    class: u8,
+pub enum Field {
+    Operand(u16, u8),
+    Constant(u16),
+    Target(u16),
+    Slot(u8),
 }
 
-impl fmt::Display for Operand {
-    fn fmt<W: fmt::Write>(&self, f: &mut fmt::Formatter<W>) -> fmt::Result {
-        let letter = self.letter;
-        let number = self.number;
-        let class = class_name(self.class);
-        write!(f, " {letter}{number}:{class}")
-    }
+// The fields of a row that are in use, in order.
+pub fn fields(row: SourceRow) -> [Option<Field>; 6]
+    ensures { result ≡ fields_of row }
+{
+    let shape = row.op.shape();
+    [
+        shape.d.then_some(Field::Operand(row.d, row.dclass)),
+        shape.a.then_some(Field::Operand(row.a, row.aclass)),
+        shape.b.then_some(Field::Operand(row.b, row.aclass)),
+        shape.constant.then_some(Field::Constant(row.constant)),
+        shape.target.then_some(Field::Target(row.target)),
+        shape.slot.then_some(Field::Slot(row.slot)),
+    ]
 }
 
 // A row as text, its operands behind a letter: v for variables, r for registers.
@@ -201,59 +205,26 @@ pub struct Spelled {
     pub row: SourceRow,
 }
 
-fn write_operands<W: fmt::Write>(text: Spelled, f: &mut fmt::Formatter<W>) -> fmt::Result {
-    let letter = text.letter;
-    let row = text.row;
-    let shape = row.op.shape();
-    if shape.d {
-        let d = Operand {
-            letter,
-            number: row.d,
-            class: row.dclass,
-        };
-        write!(f, "{d}")?;
-    }
-    if shape.a {
-        let a = Operand {
-            letter,
-            number: row.a,
-            class: row.aclass,
-        };
-        write!(f, "{a}")?;
-    }
-    if shape.b {
-        let b = Operand {
-            letter,
-            number: row.b,
-            class: row.aclass,
-        };
-        write!(f, "{b}")?;
-    }
-    if shape.constant {
-        let constant = row.constant;
-        write!(f, " {constant}")?;
-    }
-    if shape.target {
-        let target = row.target;
-        write!(f, " row {target}")?;
-    }
-    if shape.slot {
-        let slot = row.slot;
-        write!(f, " s{slot}")?;
-    }
-    Ok(())
-}
-
 impl fmt::Display for Spelled {
     fn fmt<W: fmt::Write>(&self, f: &mut fmt::Formatter<W>) -> fmt::Result {
-        let name = op_name(self.row.op);
-        let shape = self.row.op.shape();
-        if shape.d || shape.a || shape.target {
-            write!(f, "{name:<6}")?;
-        } else {
-            write!(f, "{name}")?;
+        let Spelled { letter, row } = *self;
+        let name = op_name(row.op);
+        match row.op {
+            Op::End => write!(f, "{name}")?,
+            _ => write!(f, "{name:<6}")?,
         }
-        write_operands(*self, f)
+        for field in fields(row).iter().flatten() {
+            match *field {
+                Field::Operand(number, class) => {
+                    let class = class_name(class);
+                    write!(f, " {letter}{number}:{class}")?
+                }
+                Field::Constant(constant) => write!(f, " {constant}")?,
+                Field::Target(target) => write!(f, " row {target}")?,
+                Field::Slot(slot) => write!(f, " s{slot}")?,
+            }
+        }
+        Ok(())
     }
 }
 
@@ -266,6 +237,7 @@ pub struct Rows<'a, 'b> {
 impl fmt::Display for Rows<'_, '_> {
     fn fmt<W: fmt::Write>(&self, f: &mut fmt::Formatter<W>) -> fmt::Result {
         writeln!(f, "  row  weight  opcode and operands")?;
+        // The state tells its rows by their numbers and lends no slice of them.
         for i in 0..self.program.count() {
             if let Some(row) = self.program.row(i) {
                 let weight = row.weight;
