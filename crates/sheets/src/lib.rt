@@ -27,23 +27,10 @@ impl Block {
     };
 }
 
-const NO_PLACE: Place = Place {
-    home: Home::Open,
-    number: 0,
-    round: 0,
-    hoped: false,
-};
-
-fn in_slot(place: Place) -> bool
-    ensures { result ≡ is_slot place.home }
-{
-    matches!(place.home, Home::Slot)
-}
-
 fn place_at(places: &[Place], v: u16) -> Place
     ensures { result ≡ place_of places.now v }
 {
-    places.get(v as usize).copied().unwrap_or(NO_PLACE)
+    places.get(v as usize).copied().unwrap_or(Place::OPEN)
 }
 
 fn row_at(rows: &[Row], i: usize) -> Row
@@ -56,21 +43,21 @@ fn row_at(rows: &[Row], i: usize) -> Row
 fn together(p: Place, q: Place) -> bool
     ensures { result ≡ together_of p q }
 {
-    p.number == q.number && in_slot(p) == in_slot(q)
+    p.home.number() == q.home.number() && p.is_slot() == q.is_slot()
 }
 
 // Whether a field is in use and names a spilled variable.
 fn spilled(used: bool, place: Place) -> bool
     ensures { result ≡ used && is_slot place.home }
 {
-    used && in_slot(place)
+    used && place.is_slot()
 }
 
 // Whether a row of code copies from a register to where a variable stands.
 fn carries(row: Row, from: u16, to: Place) -> bool
     ensures { result ≡ carries_of row from to }
 {
-    row.op.copies() && row.a == from && (in_slot(to) || row.d == to.number as u16)
+    row.op.copies() && row.a == from && (to.is_slot() || row.d == to.home.number() as u16)
 }
 
 // A row of the source with the places of its variables.
@@ -112,10 +99,10 @@ impl Placed {
     fn origin(self, code: &[Row]) -> u16
         ensures { result ≡ origin_of self.a code.now }
     {
-        if in_slot(self.a) {
+        if self.a.is_slot() {
             row_at(code, 0).d
         } else {
-            self.a.number as u16
+            self.a.home.number() as u16
         }
     }
 
@@ -157,8 +144,8 @@ pub fn block_of(row: Row, places: &[Place], code: &[Row]) -> Block
 fn home_name(home: Home) -> &'static str {
     match home {
         Home::Open => "open",
-        Home::Register => "register",
-        Home::Slot => "slot",
+        Home::Register(_) => "register",
+        Home::Slot(_) => "slot",
     }
 }
 
@@ -276,7 +263,7 @@ fn write_place<W: fmt::Write>(
 ) -> fmt::Result {
     let class = class_name(class);
     let home = home_name(place.home);
-    let number = place.number;
+    let number = place.home.number();
     let round = place.round;
     let mark = if place.hoped { "hoped" } else { "tested" };
     writeln!(
