@@ -9,7 +9,7 @@ use Rattle.compiling.specs.declared.Place.{Place}
 use Rattle.printing.specs.Texts.{place_text, places_text, row_text, compiled_text}
 use Rattle.printing.specs.Calls.{restarted_text, played_text, state_text}
 
-a_slot : places_text (record { home = Slot; number = 0; round = 1; hoped = true } ∷ record { home = Register; number = 3; round = 3; hoped = false } ∷ []) ≡ codes "s0@1h,r3@3t"
+a_slot : places_text (record { home = Slot 0; round = 1; hoped = true } ∷ record { home = Register 3; round = 3; hoped = false } ∷ []) ≡ codes "s0@1h,r3@3t"
 unfolding place_text digits
 a_slot = refl
 
@@ -22,7 +22,7 @@ unfolding row_text digits
 a_less = refl
 
 abbrev first_word : Place
-first_word = record { home = Register; number = 0; round = 1; hoped = false }
+first_word = record { home = Register 0; round = 1; hoped = false }
 
 abbrev seven_out : List Row
 seven_out =

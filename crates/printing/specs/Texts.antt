@@ -8,6 +8,7 @@ use Rattle.rows.specs.Rows.{shape, opcode, used}
 use Rattle.compiling.specs.declared.Home.{Home}
 use Rattle.compiling.specs.declared.Home.TheVariants.{Open, Register, Slot}
 use Rattle.compiling.specs.declared.Place.{Place}
+use Rattle.compiling.specs.Working.{number_of}
 
 -- ---- several things in a row
 
@@ -33,8 +34,8 @@ numbers_text numbers = listed decimal numbers
 -- the letter of a home
 abbrev pub home_letter : Home → ℕ
 home_letter Open = 45
-home_letter Register = 114
-home_letter Slot = 115
+home_letter (Register n) = 114
+home_letter (Slot n) = 115
 
 -- the letter of a mark: hoped or tested
 abbrev pub mark_letter : Bool → ℕ
@@ -43,7 +44,7 @@ mark_letter hoped = cond hoped 104 116
 -- the place of a variable, as s0@1h: home, number, round, mark
 unfoldable pub place_text : Place → List ℕ
 place_text p =
-    home_letter p.home ∷ (decimal p.number ++ (codes "@" ++ (decimal p.round ++ (mark_letter p.hoped ∷ []))))
+    home_letter p.home ∷ (decimal (number_of p.home) ++ (codes "@" ++ (decimal p.round ++ (mark_letter p.hoped ∷ []))))
 
 -- the places of all variables
 abbrev pub places_text : List Place → List ℕ

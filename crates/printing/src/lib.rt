@@ -85,8 +85,8 @@ fn home_letter(home: Home) -> u8
 {
     match home {
         Home::Open => b'-',
-        Home::Register => b'r',
-        Home::Slot => b's',
+        Home::Register(_) => b'r',
+        Home::Slot(_) => b's',
     }
 }
 
@@ -101,7 +101,7 @@ impl Told for Place {
 
     fn tell(self, out: &mut Vec<u8>) -> Result<(), AllocError> {
         out.push(home_letter(self.home))?;
-        write_number(self.number as u32, out)?;
+        write_number(self.home.number() as u32, out)?;
         out.push(b'@')?;
         write_number(self.round as u32, out)?;
         out.push(mark_letter(self.hoped))?;

@@ -3,12 +3,12 @@ use Rattle.std.specs.Prelude.{ℕ, ◌+◌, Bool, false, cond, not, ◌&&◌, �
 use Rattle.rows.specs.declared.Row.{Row}
 use Rattle.rows.specs.Rows.{shape, copies, row_at}
 use Rattle.compiling.specs.declared.Place.{Place}
-use Rattle.compiling.specs.Working.{is_slot, place_of}
+use Rattle.compiling.specs.Working.{is_slot, number_of, place_of}
 use Rattle.sheets.specs.declared.Block.{Block}
 
 -- whether two variables stand in one register or in one slot
 abbrev pub together : Place → Place → Bool
-together p q = p.number == q.number && cond (is_slot p.home) (is_slot q.home) (not (is_slot q.home))
+together p q = number_of p.home == number_of q.home && cond (is_slot p.home) (is_slot q.home) (not (is_slot q.home))
 
 -- whether a row is a copy whose ends stand together: nothing of it is in the code
 abbrev pub idle : Row → (d a : Place) → Bool
@@ -20,11 +20,11 @@ loads r a b = cond ((shape r.op).a && is_slot a.home) 1 0 + cond ((shape r.op).b
 
 -- the register that a is read from: that of its load, if it is spilled
 abbrev pub origin : Place → List Row → ℕ
-origin a code = cond (is_slot a.home) (row_at code 0).d a.number
+origin a code = cond (is_slot a.home) (row_at code 0).d (number_of a.home)
 
 -- whether a row of code copies from a register to where a variable stands
 abbrev pub carries : Row → ℕ → Place → Bool
-carries c from to = copies c.op && (c.a == from && (is_slot to.home || c.d == to.number))
+carries c from to = copies c.op && (c.a == from && (is_slot to.home || c.d == number_of to.home))
 
 -- whether a row itself is in the code behind its loads: a copy within one register is not
 abbrev pub kept : Row → ℕ → (d a : Place) → List Row → Bool

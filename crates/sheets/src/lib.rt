@@ -6,7 +6,7 @@ ghost use Rattle.compiling.specs.Working.{is_slot, place_of};
 ghost use Rattle.sheets.specs.Blocks.{together as together_of, idle as idle_of, loads as loads_of, origin as origin_of, carries as carries_of, kept as kept_of, block_at, block_of};
 
 use compiling::{Home, Place};
-use reports::{Spelled, class_name, op_name};
+use reports::{Field, Spelled, class_name, fields, op_name};
 use rows::Row;
 use stages::states::Compiled;
 use std::fmt;
@@ -19,106 +19,116 @@ pub struct Block {
     pub store: bool,
 }
 
-const NO_PLACE: Place = Place {
-    home: Home::Open,
-    number: 0,
-    round: 0,
-    hoped: false,
-};
-
-fn in_slot(place: Place) -> bool
-    ensures { result ≡ is_slot place.home }
-{
-    matches!(place.home, Home::Slot)
+impl Block {
+    const NONE: Block = Block {
+        loads: 0,
+        kept: false,
+        store: false,
+    };
 }
 
 fn place_at(places: &[Place], v: u16) -> Place
     ensures { result ≡ place_of places.now v }
 {
-    let v = v as usize;
-    if v < places.len() {
-        places[v]
-    } else {
-        NO_PLACE
-    }
+    places.get(v as usize).copied().unwrap_or(Place::OPEN)
 }
 
 fn row_at(rows: &[Row], i: usize) -> Row
     ensures { result ≡ row_at rows.now i }
 {
-    if i < rows.len() { rows[i] } else { Row::END }
+    rows.get(i).copied().unwrap_or(Row::END)
 }
 
 // Whether two variables stand in one register or in one slot.
 fn together(p: Place, q: Place) -> bool
     ensures { result ≡ together_of p q }
 {
-    p.number == q.number && in_slot(p) == in_slot(q)
-}
-
-// Whether a row is a copy whose ends stand together: nothing of it is in the code.
-fn idle(row: Row, d: Place, a: Place) -> bool
-    ensures { result ≡ idle_of row d a }
-{
-    row.op.copies() && together(d, a)
+    p.home.number() == q.home.number() && p.is_slot() == q.is_slot()
 }
 
 // Whether a field is in use and names a spilled variable.
 fn spilled(used: bool, place: Place) -> bool
     ensures { result ≡ used && is_slot place.home }
 {
-    used && in_slot(place)
-}
-
-fn loads(row: Row, a: Place, b: Place) -> u8
-    ensures { result ≡ loads_of row a b }
-{
-    let shape = row.op.shape();
-    let of_a = if spilled(shape.a, a) { 1 } else { 0 };
-    let of_b = if spilled(shape.b, b) { 1 } else { 0 };
-    of_a + of_b
-}
-
-// The register that a is read from: that of its load, if it is spilled.
-fn origin(a: Place, code: &[Row]) -> u16
-    ensures { result ≡ origin_of a code.now }
-{
-    if in_slot(a) {
-        row_at(code, 0).d
-    } else {
-        a.number as u16
-    }
+    used && place.is_slot()
 }
 
 // Whether a row of code copies from a register to where a variable stands.
 fn carries(row: Row, from: u16, to: Place) -> bool
     ensures { result ≡ carries_of row from to }
 {
-    row.op.copies() && row.a == from && (in_slot(to) || row.d == to.number as u16)
+    row.op.copies() && row.a == from && (to.is_slot() || row.d == to.home.number() as u16)
 }
 
-// Whether a row itself is in the code behind its loads: a copy within one register is not.
-fn kept(row: Row, loads: u8, d: Place, a: Place, code: &[Row]) -> bool
-    ensures { result ≡ kept_of row loads d a code.now }
-{
-    !row.op.copies() || carries(row_at(code, loads as usize), origin(a, code), d)
+// A row of the source with the places of its variables.
+#[derive(Clone, Copy)]
+struct Placed {
+    row: Row,
+    d: Place,
+    a: Place,
+    b: Place,
 }
 
-fn block_at(row: Row, d: Place, a: Place, b: Place, code: &[Row]) -> Block
-    ensures { result ≡ block_at row d a b code.now }
-{
-    if idle(row, d, a) {
-        return Block {
-            loads: 0,
-            kept: false,
-            store: false,
-        };
+impl Placed {
+    fn of(row: Row, places: &[Place]) -> Placed
+        ensures { result ≡ record { row = row; d = place_of places.now row.d; a = place_of places.now row.a; b = place_of places.now row.b } }
+    {
+        Placed {
+            row,
+            d: place_at(places, row.d),
+            a: place_at(places, row.a),
+            b: place_at(places, row.b),
+        }
     }
-    let loads = loads(row, a, b);
-    Block {
-        loads,
-        kept: kept(row, loads, d, a, code),
-        store: spilled(row.op.shape().d, d),
+
+    // Whether the row is a copy whose ends stand together: nothing of it is in the code.
+    fn idle(self) -> bool
+        ensures { result ≡ idle_of self.row self.d self.a }
+    {
+        self.row.op.copies() && together(self.d, self.a)
+    }
+
+    fn loads(self) -> u8
+        ensures { result ≡ loads_of self.row self.a self.b }
+    {
+        let shape = self.row.op.shape();
+        spilled(shape.a, self.a) as u8 + spilled(shape.b, self.b) as u8
+    }
+
+    // The register that a is read from: that of its load, if it is spilled.
+    fn origin(self, code: &[Row]) -> u16
+        ensures { result ≡ origin_of self.a code.now }
+    {
+        if self.a.is_slot() {
+            row_at(code, 0).d
+        } else {
+            self.a.home.number() as u16
+        }
+    }
+
+    // Whether the row itself is in the code behind its loads: a copy within one register is not.
+    fn kept(self, code: &[Row]) -> bool
+        ensures { result ≡ kept_of self.row (loads_of self.row self.a self.b) self.d self.a code.now }
+    {
+        !self.row.op.copies()
+            || carries(
+                row_at(code, self.loads() as usize),
+                self.origin(code),
+                self.d,
+            )
+    }
+
+    fn block(self, code: &[Row]) -> Block
+        ensures { result ≡ block_at self.row self.d self.a self.b code.now }
+    {
+        if self.idle() {
+            return Block::NONE;
+        }
+        Block {
+            loads: self.loads(),
+            kept: self.kept(code),
+            store: spilled(self.row.op.shape().d, self.d),
+        }
     }
 }
 
@@ -127,21 +137,15 @@ fn block_at(row: Row, d: Place, a: Place, b: Place, code: &[Row]) -> Block
 pub fn block_of(row: Row, places: &[Place], code: &[Row]) -> Block
     ensures { result ≡ block_of places.now row code.now }
 {
-    block_at(
-        row,
-        place_at(places, row.d),
-        place_at(places, row.a),
-        place_at(places, row.b),
-        code,
-    )
+    Placed::of(row, places).block(code)
 }
 
-// The name of a home, as the report tells it.
+// The name of a home, as the report tells it: a text, for the columns fill it up by themselves.
 fn home_name(home: Home) -> &'static str {
     match home {
         Home::Open => "open",
-        Home::Register => "register",
-        Home::Slot => "slot",
+        Home::Register(_) => "register",
+        Home::Slot(_) => "slot",
     }
 }
 
@@ -149,51 +153,41 @@ fn home_name(home: Home) -> &'static str {
 fn write_variable<W: fmt::Write>(v: u16, class: u8, f: &mut fmt::Formatter<W>) -> fmt::Result {
     let class = class_name(class);
     write!(f, " v{v}:{class}")?;
-    f.write_repeated(" ", (v < 10) as usize)
+    f.write_repeated(" ", usize::from(v < 10))
 }
 
-// A row of the source in 48 columns.
-fn write_source<W: fmt::Write>(i: usize, row: Row, f: &mut fmt::Formatter<W>) -> fmt::Result {
-    let shape = row.op.shape();
-    let weight = row.weight;
-    let name = op_name(row.op);
-    write!(f, "{i:>5} {weight:>7}  {name:<6}")?;
-    if shape.d {
-        write_variable(row.d, row.dclass, f)?;
-    }
-    if shape.a {
-        write_variable(row.a, row.aclass, f)?;
-    }
-    if shape.b {
-        write_variable(row.b, row.aclass, f)?;
-    }
-    if shape.constant {
-        let constant = row.constant;
-        write!(f, " {constant:<8}")?;
-    }
-    if shape.target {
-        let target = row.target;
-        write!(f, " row {target:<4}")?;
-    }
-    let parts = shape.d as usize
-        + shape.a as usize
-        + shape.b as usize
-        + shape.constant as usize
-        + shape.target as usize;
-    f.write_repeated("         ", 3usize.saturating_sub(parts))
-}
-
-// What stands left of a row of code: the row of the source beside the first, nothing beside the others.
-fn write_left<W: fmt::Write>(
-    first: bool,
+// A row of the source by its number, in 48 columns.
+#[derive(Clone, Copy)]
+struct Source {
     i: usize,
     row: Row,
-    f: &mut fmt::Formatter<W>,
-) -> fmt::Result {
-    if first {
-        write_source(i, row, f)
-    } else {
-        f.write_repeated(" ", 48)
+}
+
+impl fmt::Display for Source {
+    fn fmt<W: fmt::Write>(&self, f: &mut fmt::Formatter<W>) -> fmt::Result {
+        let Source { i, row } = *self;
+        let weight = row.weight;
+        let name = op_name(row.op);
+        write!(f, "{i:>5} {weight:>7}  {name:<6}")?;
+        let mut free = 3usize;
+        for field in fields(row).iter().flatten() {
+            match *field {
+                Field::Operand(v, class) => write_variable(v, class, f)?,
+                Field::Constant(constant) => write!(f, " {constant:<8}")?,
+                Field::Target(target) => write!(f, " row {target:<4}")?,
+                Field::Slot(slot) => write!(f, " s{slot:<7}")?,
+            }
+            free = free.saturating_sub(1);
+        }
+        f.write_repeated("         ", free)
+    }
+}
+
+// What stands left of a row of code: a row of the source beside its first, nothing beside the others.
+fn write_left<W: fmt::Write>(source: Option<Source>, f: &mut fmt::Formatter<W>) -> fmt::Result {
+    match source {
+        Some(source) => write!(f, "{source}"),
+        None => f.write_repeated(" ", 48),
     }
 }
 
@@ -217,26 +211,26 @@ fn write_code<W: fmt::Write>(
 
 // Writes a row of the source beside its block, which begins at a place of the code; gives the place behind it.
 fn write_block<W: fmt::Write>(
-    i: usize,
-    row: Row,
+    source: Source,
     block: Block,
     code: &[Row],
     start: usize,
     f: &mut fmt::Formatter<W>,
 ) -> Result<usize, fmt::Error> {
+    let mut left = Some(source);
     let mut at = start;
-    for k in 0..block.loads {
-        write_left(k == 0, i, row, f)?;
+    for _ in 0..block.loads {
+        write_left(left.take(), f)?;
         at = write_code(code, at, f)?;
     }
-    write_left(block.loads == 0, i, row, f)?;
+    write_left(left.take(), f)?;
     if block.kept {
         at = write_code(code, at, f)?;
     } else {
         writeln!(f, "       dropped")?;
     }
     if block.store {
-        write_left(false, i, row, f)?;
+        write_left(None, f)?;
         at = write_code(code, at, f)?;
     }
     Ok(at)
@@ -256,7 +250,7 @@ fn write_blocks<W: fmt::Write>(
     for (i, row) in rows.iter().enumerate() {
         let start = at.min(code.len());
         let block = block_of(*row, places, &code[start..]);
-        at = write_block(i, *row, block, code, start, f)?;
+        at = write_block(Source { i, row: *row }, block, code, start, f)?;
     }
     Ok(())
 }
@@ -269,7 +263,7 @@ fn write_place<W: fmt::Write>(
 ) -> fmt::Result {
     let class = class_name(class);
     let home = home_name(place.home);
-    let number = place.number;
+    let number = place.home.number();
     let round = place.round;
     let mark = if place.hoped { "hoped" } else { "tested" };
     writeln!(
@@ -290,9 +284,9 @@ impl fmt::Display for Sheet<'_, '_> {
         write_blocks(program.source_rows(), program.places(), program.code(), f)?;
         writeln!(f)?;
         writeln!(f, "variable  class  home      number  round  mark")?;
-        for v in 0..program.vars() {
-            if let (Some(class), Some(place)) = (program.class(v), program.place(v)) {
-                write_place(v, class, place, f)?;
+        for (v, place) in program.places().iter().enumerate() {
+            if let Some(class) = program.class(v) {
+                write_place(v, class, *place, f)?;
             }
         }
         Ok(())

@@ -8,10 +8,10 @@ unfolding place_text
 returns c =
     let p = c.args.self in
     let was = vec_items c.args.out.now in
-    five was (c.home_letter.result ∷ []) (decimal p.number) (codes "@") (decimal p.round) (c.mark_letter.result ∷ [])
+    five was (c.home_letter.result ∷ []) (decimal c.number.result) (codes "@") (decimal p.round) (c.mark_letter.result ∷ [])
     c.in_ok-push.ensures.items
     c.in_ok-write_number.ensures
     c.in_ok-push-2.ensures.items
     c.in_ok-write_number-2.ensures
     c.in_ok-push-3.ensures.items
-    ∙ (λ i. was ++ (c.home_letter.ensures i ∷ (decimal p.number ++ (codes "@" ++ (decimal p.round ++ (c.mark_letter.ensures i ∷ []))))))
+    ∙ (λ i. was ++ (c.home_letter.ensures i ∷ (decimal (c.number.ensures i) ++ (codes "@" ++ (decimal p.round ++ (c.mark_letter.ensures i ∷ []))))))
