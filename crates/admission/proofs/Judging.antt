@@ -81,23 +81,35 @@ missed t n e = elim (cases_lt (least t n) n) [
 ]
 
 -- the fault by the two searches over the rows
-pub fault_lost : (p : Program) (rs : List Row) (lost : ℕ) → rs ≡ p.rows → Some lost ≡ earliest (λ i. not (reached rs i)) (length rs) → Err (Unreached lost) ≡ unless_fault (fact_fault p)
+pub fault_lost : (p : Program) (rs : List Row) (lost : ℕ) → rs ≡ p.rows → lost ≡ least (λ i. not (reached rs i)) (length rs) → lost < length rs → Some (Unreached lost) ≡ fact_fault p
 unfolding fact_fault
-fault_lost p rs lost same e = let f = found (λ i. not (reached rs i)) (length rs) lost e in rw (← same, ← f.0, lt-ltb lost (length rs) f.1)
+fault_lost p rs lost same e lt = rw (← same, ← e, lt-ltb lost (length rs) lt)
 
-pub fault_raw : (p : Program) (rs : List Row) (raw : ℕ) → rs ≡ p.rows → None ≡ earliest (λ i. not (reached rs i)) (length rs) → Some raw ≡ earliest (λ i. not (sure p.vars rs i)) (length rs) → Err (Unwritten raw) ≡ unless_fault (fact_fault p)
+pub fault_raw : (p : Program) (rs : List Row) (lost raw : ℕ) → rs ≡ p.rows → lost ≡ least (λ i. not (reached rs i)) (length rs) → length rs ≤ lost →
+    raw ≡ least (λ i. not (sure p.vars rs i)) (length rs) → raw < length rs → Some (Unwritten raw) ≡ fact_fault p
 unfolding fact_fault
-fault_raw p rs raw same e g =
+fault_raw p rs lost raw same e le f lt = rw (← same, ← e, le-ltb lost (length rs) le, ← f, lt-ltb raw (length rs) lt)
+
+pub fault_none : (p : Program) (rs : List Row) (lost raw : ℕ) → rs ≡ p.rows → lost ≡ least (λ i. not (reached rs i)) (length rs) → length rs ≤ lost →
+    raw ≡ least (λ i. not (sure p.vars rs i)) (length rs) → length rs ≤ raw → None ≡ fact_fault p
+unfolding fact_fault
+fault_none p rs lost raw same e le f ge = rw (← same, ← e, le-ltb lost (length rs) le, ← f, le-ltb raw (length rs) ge)
+
+-- the answer by what the two searches found
+pub refused_lost : (p : Program) (rs : List Row) (lost : ℕ) → rs ≡ p.rows → Some lost ≡ earliest (λ i. not (reached rs i)) (length rs) → Err (Unreached lost) ≡ unless_fault (fact_fault p)
+refused_lost p rs lost same e = let f = found (λ i. not (reached rs i)) (length rs) lost e in ap unless_fault (fault_lost p rs lost same f.0 f.1)
+
+pub refused_raw : (p : Program) (rs : List Row) (raw : ℕ) → rs ≡ p.rows → None ≡ earliest (λ i. not (reached rs i)) (length rs) → Some raw ≡ earliest (λ i. not (sure p.vars rs i)) (length rs) → Err (Unwritten raw) ≡ unless_fault (fact_fault p)
+refused_raw p rs raw same e g =
     let m = missed (λ i. not (reached rs i)) (length rs) e in
     let f = found (λ i. not (sure p.vars rs i)) (length rs) raw g in
-    rw (← same, le-ltb (least (λ i. not (reached rs i)) (length rs)) (length rs) m, ← f.0, lt-ltb raw (length rs) f.1)
+    ap unless_fault (fault_raw p rs (least (λ i. not (reached rs i)) (length rs)) raw same refl m f.0 f.1)
 
-pub fault_none : (p : Program) (rs : List Row) → rs ≡ p.rows → None ≡ earliest (λ i. not (reached rs i)) (length rs) → None ≡ earliest (λ i. not (sure p.vars rs i)) (length rs) → Ok tt ≡ unless_fault (fact_fault p)
-unfolding fact_fault
-fault_none p rs same e g =
+pub refused_none : (p : Program) (rs : List Row) → rs ≡ p.rows → None ≡ earliest (λ i. not (reached rs i)) (length rs) → None ≡ earliest (λ i. not (sure p.vars rs i)) (length rs) → Ok tt ≡ unless_fault (fact_fault p)
+refused_none p rs same e g =
     let m = missed (λ i. not (reached rs i)) (length rs) e in
     let k = missed (λ i. not (sure p.vars rs i)) (length rs) g in
-    rw (← same, le-ltb (least (λ i. not (reached rs i)) (length rs)) (length rs) m, le-ltb (least (λ i. not (sure p.vars rs i)) (length rs)) (length rs) k)
+    ap unless_fault (fault_none p rs (least (λ i. not (reached rs i)) (length rs)) (least (λ i. not (sure p.vars rs i)) (length rs)) same refl m refl k)
 
 -- ---- the whole answer
 
