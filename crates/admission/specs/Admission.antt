@@ -1,5 +1,5 @@
 -- Admission: a file that can be read, whose rows are all reached and read only what is surely written.
-use Rattle.std.specs.Prelude.{ℕ, cond, not, List, length, Some, None, Ok, Err, Option, Result, nat_lt}
+use Rattle.std.specs.Prelude.{ℕ, Bool, cond, not, List, length, Some, None, Ok, Err, Option, Result, nat_lt}
 use Rattle.counting.specs.Counting.{least}
 use Rattle.faults.specs.declared.RowFault.{RowFault}
 use Rattle.faults.specs.declared.ProgramFault.{ProgramFault}
@@ -7,6 +7,15 @@ use Rattle.faults.specs.declared.ProgramFault.TheVariants.{Rows, Unreached, Unwr
 use Rattle.rows.specs.Rows.{Program}
 use Rattle.source.specs.Reading.{reading}
 use Rattle.admission.specs.Kinds.{reached, sure}
+
+-- the lowest number below n that passes, if there is one
+abbrev pub earliest : (ℕ → Bool) → ℕ → Option ℕ
+earliest t n = let k = least t n in cond (nat_lt k n) (Some k) None
+
+-- done, if there is no fault
+abbrev pub unless_fault : Option ProgramFault → Result (Unit {0}) ProgramFault
+unless_fault (Some e) = Err e
+unless_fault None = Ok tt
 
 -- the first fault of the rows together: the lowest row that is not reached, else the lowest that reads what may be unwritten
 unfoldable pub fact_fault : Program → Option ProgramFault

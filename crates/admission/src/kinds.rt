@@ -1,6 +1,5 @@
-ghost use Rattle.std.specs.Prelude.{◌≡◌, ℕ, ◌≤◌, false, [], length, take, slice_index, slice_index_or};
-ghost use Rattle.sets.specs.Words.{members};
-ghost use Rattle.rows.specs.Rows.{reads as reads_of, writes as writes_of, set_of, row_at};
+ghost use Rattle.std.specs.Prelude.{◌≡◌, ℕ, ◌≤◌, false, [], length, slice_index_or};
+ghost use Rattle.rows.specs.Rows.{reads as reads_of, writes as writes_of, set_of, row_at, rows_left};
 ghost use Rattle.admission.specs.Kinds.{nexts, reach, initialisation};
 ghost use Rattle.admission.specs.Laws.{reach_lawful, initialisation_lawful};
 
@@ -10,56 +9,43 @@ use rows::Ways;
 use sets::NodeSet;
 
 impl<'a> Graph<'a> {
-    // The rows that row i may go on to; none from a number that is no row.
-    fn from(&self, i: usize) -> Ways
-        ensures { take result.count result.rows ≡ slice_index_or (nexts self.now.rows.now) i [] }
-    {
-        if i < self.rows.len() {
-            return self.rows[i].next(i as u16);
-        }
-        Ways {
-            count: 0,
-            rows: [0, 0],
-        }
-    }
-
     pub fn len(&self) -> usize
         ensures { result ≡ length (nexts self.now.rows.now) }
     {
         self.rows.len()
     }
 
+    // The rows that row i may go on to; none from a number that is no row.
+    pub fn ways(&self, i: usize) -> Ways
+        ensures { rows_left result ≡ slice_index_or (nexts self.now.rows.now) i [] }
+    {
+        match self.rows.get(i) {
+            Some(row) => row.next(i as u16),
+            None => Ways {
+                target: None,
+                below: None,
+            },
+        }
+    }
+
     // The variables that row i reads; none for a number that is no row.
     pub fn reads(&self, i: usize) -> NodeSet
-        ensures { members result ≡ set_of (reads_of (row_at self.now.rows.now i)) }
+        ensures { result ≡ set_of (reads_of (row_at self.now.rows.now i)) }
     {
-        if i < self.rows.len() {
-            return self.rows[i].reads();
+        match self.rows.get(i) {
+            Some(row) => row.reads(),
+            None => NodeSet::empty(),
         }
-        NodeSet::empty()
     }
 
     // The variables that row i writes; none for a number that is no row.
     pub fn writes(&self, i: usize) -> NodeSet
-        ensures { members result ≡ set_of (writes_of (row_at self.now.rows.now i)) }
+        ensures { result ≡ set_of (writes_of (row_at self.now.rows.now i)) }
     {
-        if i < self.rows.len() {
-            return self.rows[i].writes();
+        match self.rows.get(i) {
+            Some(row) => row.writes(),
+            None => NodeSet::empty(),
         }
-        NodeSet::empty()
-    }
-
-    pub fn ways(&self, i: usize) -> usize
-        ensures { result ≡ length (slice_index_or (nexts self.now.rows.now) i []) }
-    {
-        self.from(i).count
-    }
-
-    pub fn way(&self, i: usize, k: usize) -> usize
-        ensures { result ≡ slice_index (slice_index_or (nexts self.now.rows.now) i []) k }
-    {
-        let ways = self.from(i);
-        if k < ways.count { ways.rows[k] } else { 0 }
     }
 }
 
@@ -78,12 +64,8 @@ impl<'a> FactKind for Reach<'a> {
         self.graph.len()
     }
 
-    fn ways(&self, i: usize) -> usize {
+    fn ways(&self, i: usize) -> Ways {
         self.graph.ways(i)
-    }
-
-    fn way(&self, i: usize, k: usize) -> usize {
-        self.graph.way(i, k)
     }
 
     fn backward(&self) -> bool {
@@ -124,12 +106,8 @@ impl<'a> FactKind for Initialisation<'a> {
         self.graph.len()
     }
 
-    fn ways(&self, i: usize) -> usize {
+    fn ways(&self, i: usize) -> Ways {
         self.graph.ways(i)
-    }
-
-    fn way(&self, i: usize, k: usize) -> usize {
-        self.graph.way(i, k)
     }
 
     fn backward(&self) -> bool {

@@ -4,10 +4,9 @@ pub mod graph;
 pub mod kinds;
 
 ghost use Rattle.std.specs.Prelude.{◌≡◌, ◌≤◌, Bool, not, length, drop};
-ghost use Rattle.counting.specs.Counting.{least};
 ghost use Rattle.source.specs.Results.{program_of};
 ghost use Rattle.admission.specs.Kinds.{reached, sure};
-ghost use Rattle.admission.specs.Admission.{fact_fault as fact_fault_of};
+ghost use Rattle.admission.specs.Admission.{fact_fault as fact_fault_of, earliest, unless_fault};
 ghost use Rattle.admission.specs.Memory.{parts, short_part as short_part_of, answer, answered};
 ghost use Rattle.admission.specs.Results.{as_admitted};
 
@@ -24,42 +23,41 @@ pub const FACT_SETS: usize = 512;
 
 pub const EDGE_SETS: usize = 448;
 
-// The lowest row that is not reached, or the number of rows.
-fn first_unreached(graph: Graph, facts: &mut [NodeSet], comers: &mut [NodeSet]) -> usize
+// The lowest row that is not reached.
+fn first_unreached(graph: Graph, facts: &mut [NodeSet], comers: &mut [NodeSet]) -> Option<usize>
     requires { (length graph.rows.now ≤ 128) × ((128 ≤ length facts.old) × (128 ≤ length comers.old)) }
-    ensures row { result ≡ least (λ i. not (reached graph.entry.rows.now i)) (length graph.entry.rows.now) }
+    ensures row { result ≡ earliest (λ i. not (reached graph.entry.rows.now i)) (length graph.entry.rows.now) }
     ensures past { (drop 128 facts.new ≡ drop 128 facts.old) × (drop 128 comers.new ≡ drop 128 comers.old) }
 {
-    solve(&Reach { graph }, facts, comers);
-    let n = graph.rows.len();
-    for i in 0..n {
-        if facts[i].equals(&NodeSet::empty()) {
-            return i;
+    let _ = solve(&Reach { graph }, facts, comers);
+    for (i, fact) in facts[..graph.rows.len()].iter().enumerate() {
+        if fact.is_empty() {
+            return Some(i);
         }
     }
-    n
+    None
 }
 
-// The lowest row that reads what may be unwritten, or the number of rows.
-fn first_unsure(graph: Graph, vars: usize, facts: &mut [NodeSet], comers: &mut [NodeSet]) -> usize
+// The lowest row that reads what may be unwritten.
+fn first_unsure(
+    graph: Graph,
+    vars: usize,
+    facts: &mut [NodeSet],
+    comers: &mut [NodeSet],
+) -> Option<usize>
     requires { (length graph.rows.now ≤ 128) × ((vars ≤ 64) × ((128 ≤ length facts.old) × (128 ≤ length comers.old))) }
-    ensures row { result ≡ least (λ i. not (sure vars graph.entry.rows.now i)) (length graph.entry.rows.now) }
+    ensures row { result ≡ earliest (λ i. not (sure vars graph.entry.rows.now i)) (length graph.entry.rows.now) }
     ensures past { (drop 128 facts.new ≡ drop 128 facts.old) × (drop 128 comers.new ≡ drop 128 comers.old) }
 {
     let kind = Initialisation { graph, vars };
-    solve(&kind, facts, comers);
-    let n = graph.rows.len();
-    for i in 0..n {
+    let _ = solve(&kind, facts, comers);
+    for (i, row) in graph.rows.iter().enumerate() {
         let written = incoming(&kind, facts, comers, i);
-        if !graph.rows[i]
-            .reads()
-            .minus(written)
-            .equals(&NodeSet::empty())
-        {
-            return i;
+        if !row.reads().minus(written).is_empty() {
+            return Some(i);
         }
     }
-    n
+    None
 }
 
 // The first fault of the rows together. The facts are worked out in the first sets of the memory.
@@ -67,38 +65,40 @@ fn fact_fault(
     source: &Source,
     facts: &mut [NodeSet],
     comers: &mut [NodeSet],
-) -> Option<ProgramFault>
+) -> Result<(), ProgramFault>
     requires { (128 ≤ length facts.old) × (128 ≤ length comers.old) }
-    ensures fault { result ≡ fact_fault_of (program_of source.now) }
+    ensures fault { result ≡ unless_fault (fact_fault_of (program_of source.now)) }
     ensures past { (drop 128 facts.new ≡ drop 128 facts.old) × (drop 128 comers.new ≡ drop 128 comers.old) }
 {
-    let rows = &source.rows[0..source.count];
+    let rows = &source.rows[..source.count];
     let graph = Graph { rows };
-    let lost = first_unreached(graph, facts, comers);
-    if lost < rows.len() {
-        return Some(ProgramFault::Unreached(lost as u16));
+    if let Some(lost) = first_unreached(graph, facts, comers) {
+        return Err(ProgramFault::Unreached(lost as u16));
     }
-    let raw = first_unsure(graph, source.vars, facts, comers);
-    if raw < rows.len() {
-        return Some(ProgramFault::Unwritten(raw as u16));
+    if let Some(raw) = first_unsure(graph, source.vars, facts, comers) {
+        return Err(ProgramFault::Unwritten(raw as u16));
     }
-    None
+    Ok(())
 }
 
 // The fault of the lowest part of working memory that is too short.
-pub fn short_part(first: &[NodeSet], second: &[NodeSet], third: &[NodeSet]) -> Option<ProgramFault>
-    ensures { result ≡ short_part_of (parts first.now second.now third.now) }
+pub fn short_part(
+    first: &[NodeSet],
+    second: &[NodeSet],
+    third: &[NodeSet],
+) -> Result<(), ProgramFault>
+    ensures { result ≡ unless_fault (short_part_of (parts first.now second.now third.now)) }
 {
     if first.len() < FACT_SETS {
-        return Some(ProgramFault::Memory(0));
+        return Err(ProgramFault::Memory(0));
     }
     if second.len() < EDGE_SETS {
-        return Some(ProgramFault::Memory(1));
+        return Err(ProgramFault::Memory(1));
     }
     if third.len() < EDGE_SETS {
-        return Some(ProgramFault::Memory(2));
+        return Err(ProgramFault::Memory(2));
     }
-    None
+    Ok(())
 }
 
 // The program of a file, if its rows are all reached and read only what is surely written, else the first fault.
@@ -111,16 +111,12 @@ pub fn admitted(
 ) -> Result<Source, ProgramFault>
     ensures { answer (as_admitted result) (parts first.new second.new third.new) ≡ answered file.now (parts first.old second.old third.old) }
 {
-    if let Some(fault) = short_part(first, second, third) {
-        return Err(fault);
-    }
+    short_part(first, second, third)?;
     let source = read(file)?;
-    let fault = fact_fault(&source, first, second);
+    let judged = fact_fault(&source, first, second);
     clear(first, FACT_SETS);
     clear(second, EDGE_SETS);
     clear(third, EDGE_SETS);
-    match fault {
-        Some(fault) => Err(fault),
-        None => Ok(source),
-    }
+    judged?;
+    Ok(source)
 }

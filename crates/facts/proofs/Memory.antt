@@ -3,32 +3,19 @@ use Rattle.std.proofs.Common.{◌≡◌, ℕ, zero, suc, ◌+◌, ◌<◌, ◌�
 use Rattle.std.proofs.lemmas.List.{get_or-map, get_or_past, get_or-replicate, get_or_append_left, get_or-set_same, get_or-set_other, length-map, length-replicate, length-append, length-drop, take_all, take_more, take_more_set, map_push, replicate_more, ext_get_or}
 use Rattle.std.proofs.lemmas.Bool.{cases_lt, cases_eq, eq-eqb, ne_eqb, lt-ltb, le-ltb, leb-true, and_parts, or_cases, both_ways}
 use Rattle.counting.specs.Counting.{range}
-use Rattle.sets.specs.declared.NodeSet.{NodeSet}
 use Rattle.sets.specs.Sets.{has, union, single, when}
-use Rattle.sets.specs.Words.{joined, members, sets_of, no_set, empty_set, cleared}
+use Rattle.sets.specs.Words.{joined, cleared}
+use Rattle.sets.specs.Rising.{passing}
 use Rattle.sets.proofs.Members.{has_union, has_single, has_none}
 use Rattle.facts.specs.Flow.{Flow, rows, holds, comers, feeders, enters, gather, incoming}
-use Rattle.facts.specs.Solving.{listed, comer_sets, Listing, passing, suffices, Tells, Solved, Answers}
+use Rattle.facts.specs.Solving.{listed, comer_sets, Listing, suffices, Tells, Solved, Answers}
 use Rattle.facts.proofs.Walking.{same_sets, has_listed, holds_comers, comers_passing, passing_none}
-
-pub sets_at : (ss : List NodeSet) (j d : ℕ) → j < length ss → members (get_or ss j no_set) ≡ get_or (sets_of ss) j d
-sets_at ss j d l = sym (get_or-map members ss j no_set d l)
-
-pub sets_past : (ss : List NodeSet) (j d : ℕ) → length ss ≤ j → d ≡ get_or (sets_of ss) j d
-sets_past ss j d l = sym (get_or_past (sets_of ss) j d (rw (length-map ss members) l))
 
 pub take_short : {A : Type 0} (n : ℕ) (xs : List A) → take (min n (length xs)) xs ≡ take n xs
 take_short n xs = elim (cases_lt n (length xs)) [
   | inl l ↦ (let e : min n (length xs) ≡ n = omega arith in rw e)
   | inr l ↦ (let e : min n (length xs) ≡ length xs = omega arith in rw e (take_all (length xs) xs (omega arith) ∙ sym (take_all n xs l)))
 ]
-
--- the first i sets hold x
-pub fill_more : (ss : List NodeSet) (i : ℕ) (s : NodeSet) (x : ℕ) → i < length ss → members s ≡ x → sets_of (take i ss) ≡ replicate i x → sets_of (take (i + 1) (set ss i s)) ≡ replicate (i + 1) x
-fill_more ss i s x l e was = ap sets_of (take_more_set ss i s l) ∙ map_push members (take i ss) s ∙ rw (e, was) (replicate_more i x)
-
-pub fill_all : (ss : List NodeSet) (i n x : ℕ) → length ss ≡ n → n ≤ i → i ≤ n → sets_of (take i ss) ≡ replicate i x → sets_of ss ≡ replicate n x
-fill_all ss i n x l a b was = let e : i ≡ n = omega arith in ap sets_of (sym (take_all i ss (omega arith))) ∙ was ∙ ap (λ (k : ℕ). replicate k x) e
 
 -- what it means that the memory suffices
 pub suffices_parts : (f : Flow) (a b : ℕ) → suffices f a b ≡ true → (rows f ≤ a) × (f.backward ≡ false → (rows f ≤ b) × (rows f ≤ 448))
@@ -47,21 +34,21 @@ or_none : (b : Bool) → b ≡ (b || false)
 or_none true = refl
 or_none false = refl
 
-pub listing_one : (ss : List NodeSet) (i j : ℕ) (s : NodeSet) → i < length ss → j < 448 → members s ≡ union (members (get_or ss i no_set)) (when (ltb j 448) (single j)) →
+pub listing_one : (ss : List ℕ) (i j : ℕ) (s : ℕ) → i < length ss → j < 448 → s ≡ union (get_or ss i 0) (when (ltb j 448) (single j)) →
     Listing ss (set ss i s) j (i ∷ [])
 unfolding holds
 listing_one ss i j s l small e r m h =
     elim (cases_eq r i) [
-      | inl q ↦ (let here : members (get_or (set ss i s) r no_set) ≡ union (members (get_or ss r no_set)) (single j) = rw q (ap members (get_or-set_same ss i s no_set l) ∙ e ∙ rw (lt-ltb j 448 small)) in
-          rw (here, has_union (members (get_or ss r no_set)) (single j) m, has_single j m, eq-eqb r i q))
-      | inr q ↦ rw (get_or-set_other ss i r s no_set q, ne_eqb r i q) (or_none _)
+      | inl q ↦ (let here : (get_or (set ss i s) r 0) ≡ union (get_or ss r 0) (single j) = rw q ((get_or-set_same ss i s 0 l) ∙ e ∙ rw (lt-ltb j 448 small)) in
+          rw (here, has_union (get_or ss r 0) (single j) m, has_single j m, eq-eqb r i q))
+      | inr q ↦ rw (get_or-set_other ss i r s 0 q, ne_eqb r i q) (or_none _)
     ]
 
-pub listing_past : (ss : List NodeSet) (i j : ℕ) → length ss ≤ i → Listing ss ss j (i ∷ [])
+pub listing_past : (ss : List ℕ) (i j : ℕ) → length ss ≤ i → Listing ss ss j (i ∷ [])
 unfolding holds
 listing_past ss i j l r m h = let ne : r ≡ i → ⊥ = omega arith in rw (ne_eqb r i ne) (or_none _)
 
-pub listing_none : (ss : List NodeSet) (j : ℕ) → Listing ss ss j []
+pub listing_none : (ss : List ℕ) (j : ℕ) → Listing ss ss j []
 unfolding holds
 listing_none ss j r m h = or_none _
 
@@ -74,31 +61,30 @@ holds_append (x ∷ xs) ys i = rw (holds_append xs ys i) (or_assoc (eqb i x) (ho
     or_assoc true b c = refl
     or_assoc false b c = refl
 
-pub listing_more : (a b c : List NodeSet) (j : ℕ) (ws : List ℕ) (k : ℕ) → k < length ws → length b ≡ length a →
-    Listing a b j (take k ws) → Listing b c j (get_or ws k 0 ∷ []) → Listing a c j (take (k + 1) ws)
-listing_more a b c j ws k l long was new i m h =
-    new i m (omega arith) ∙ ap (λ (t : Bool). t || (holds (get_or ws k 0 ∷ []) i && eqb m j)) (was i m h)
-    ∙ sort (has (members (get_or a i no_set)) m) (holds (take k ws) i) (holds (get_or ws k 0 ∷ []) i) (eqb m j)
-    ∙ ap (λ (t : Bool). has (members (get_or a i no_set)) m || (t && eqb m j)) (sym (holds_append (take k ws) (get_or ws k 0 ∷ []) i) ∙ ap (λ (xs : List ℕ). holds xs i) (sym (take_more ws k 0 l)))
+pub listing_more : (a b c : List ℕ) (j : ℕ) (ws : List ℕ) (k : ℕ) → length b ≡ length a → Listing a b j ws → Listing b c j (k ∷ []) → Listing a c j (ws ++ k ∷ [])
+listing_more a b c j ws k long was new i m h =
+    new i m (omega arith) ∙ ap (λ (t : Bool). t || (holds (k ∷ []) i && eqb m j)) (was i m h)
+    ∙ sort (has (get_or a i 0) m) (holds ws i) (holds (k ∷ []) i) (eqb m j)
+    ∙ ap (λ (t : Bool). has (get_or a i 0) m || (t && eqb m j)) (sym (holds_append ws (k ∷ []) i))
   where
     sort : (o p q e : Bool) → ((o || (p && e)) || (q && e)) ≡ (o || ((p || q) && e))
     sort o p q e = grind arith
 
 -- the rows below j have been listed
-abbrev pub Partly : List (List ℕ) → ℕ → List NodeSet → Type 0
-Partly next j ss = (i m : ℕ) → i < length ss → has (members (get_or ss i no_set)) m ≡ (ltb m j && holds (get_or next m []) i)
+abbrev pub Partly : List (List ℕ) → ℕ → List ℕ → Type 0
+Partly next j ss = (i m : ℕ) → i < length ss → has (get_or ss i 0) m ≡ (ltb m j && holds (get_or next m []) i)
 
-pub partly_none : (next : List (List ℕ)) (ss : List NodeSet) (n : ℕ) → n ≡ length ss → Partly next 0 (cleared n ss)
+pub partly_none : (next : List (List ℕ)) (ss : List ℕ) (n : ℕ) → n ≡ length ss → Partly next 0 (cleared n ss)
 unfolding joined
 partly_none next ss n e i m h =
     let le : i < n = omega (arith, h, e, length_cleared n ss e) in
-    let here : get_or (cleared n ss) i no_set ≡ empty_set = get_or_append_left (replicate n empty_set) (drop n ss) no_set i (rw (length-replicate n empty_set) le) ∙ get_or-replicate n i empty_set no_set le in
+    let here : get_or (cleared n ss) i 0 ≡ 0 = get_or_append_left (replicate n 0) (drop n ss) 0 i (omega (arith, le, length-replicate {A = ℕ} n 0)) ∙ get_or-replicate n i 0 0 le in
     rw (here, le-ltb m 0 (omega arith)) (has_none m)
   where
-    length_cleared : (n : ℕ) (ss : List NodeSet) → n ≡ length ss → length (cleared n ss) ≡ n
-    length_cleared n ss e = length-append (replicate n empty_set) (drop n ss) ∙ omega (arith, length-replicate n empty_set, length-drop n ss)
+    length_cleared : (n : ℕ) (ss : List ℕ) → n ≡ length ss → length (cleared n ss) ≡ n
+    length_cleared n ss e = length-append (replicate n 0) (drop n ss) ∙ omega (arith, length-replicate {A = ℕ} n 0, length-drop n ss)
 
-pub partly_more : (next : List (List ℕ)) (j : ℕ) (a b : List NodeSet) → length b ≡ length a → Partly next j a → Listing a b j (get_or next j []) → Partly next (j + 1) b
+pub partly_more : (next : List (List ℕ)) (j : ℕ) (a b : List ℕ) → length b ≡ length a → Partly next j a → Listing a b j (get_or next j []) → Partly next (j + 1) b
 partly_more next j a b long was new i m h =
     new i m (omega arith) ∙ rw (was i m (omega arith)) (elim (cases_eq m j) [
       | inl e ↦ rw (e, le-ltb j j (omega arith), lt-ltb j (j + 1) (omega arith), eq-eqb j j refl) (and_true (holds (get_or next j []) i))
@@ -141,12 +127,11 @@ comer_set next i l = table_at (λ i. listed (comers next i)) (length next) 0 i 0
 has_comer : (next : List (List ℕ)) (i k : ℕ) → has (listed (comers next i)) k ≡ holds (get_or next k []) i
 has_comer next i k = has_listed (comers next i) k ∙ holds_comers next i k
 
-pub partly_all : (next : List (List ℕ)) (j : ℕ) (ss : List NodeSet) → length ss ≡ length next → j ≡ length next → Partly next j ss → sets_of ss ≡ comer_sets next
+pub partly_all : (next : List (List ℕ)) (j : ℕ) (ss : List ℕ) → length ss ≡ length next → j ≡ length next → Partly next j ss → ss ≡ comer_sets next
 unfolding comer_sets holds
 partly_all next j ss long e w =
-    ext_get_or 0 (sets_of ss) (comer_sets next) (length-map ss members ∙ long ∙ sym (comer_sets_length next))
-    (λ i l. let h : i < length ss = rw (length-map ss members) at l in
-    sym (sets_at ss i 0 h) ∙ same_sets (members (get_or ss i no_set)) (listed (comers next i)) (λ k. w i k h ∙ whole i k ∙ sym (has_comer next i k)) ∙ sym (comer_set next i (omega arith)))
+    ext_get_or 0 ss (comer_sets next) (long ∙ sym (comer_sets_length next))
+    (λ i h. same_sets (get_or ss i 0) (listed (comers next i)) (λ k. w i k h ∙ whole i k ∙ sym (has_comer next i k)) ∙ sym (comer_set next i (omega arith)))
   where
     whole : (i k : ℕ) → (ltb k j && holds (get_or next k []) i) ≡ holds (get_or next k []) i
     whole i k = elim (cases_lt k j) [
@@ -161,7 +146,7 @@ unfolding feeders
 feeders_backward f b = rw b
 
 -- walking the set told of row i is walking its feeders
-pub feeders_told : (f : Flow) (ss : List NodeSet) (i : ℕ) → f.backward ≡ false → Tells f ss → passing (has (get_or (sets_of (take (rows f) ss)) i 0)) 448 0 ≡ get_or (feeders f) i []
+pub feeders_told : (f : Flow) (ss : List ℕ) (i : ℕ) → f.backward ≡ false → Tells f ss → passing (has (get_or ((take (rows f) ss)) i 0)) 448 0 ≡ get_or (feeders f) i []
 unfolding feeders comer_sets
 feeders_told f ss i b told =
     let (few, are) = told b in
@@ -176,17 +161,17 @@ pub incoming_backward : (f : Flow) (kept : ℕ → ℕ) (i : ℕ) → f.backward
 unfolding incoming
 incoming_backward f kept i b = ap (λ (t : List (List ℕ)). gather f.join kept (enters f i) (get_or t i [])) (sym (feeders_backward f b))
 
-pub incoming_told : (f : Flow) (kept : ℕ → ℕ) (ss : List NodeSet) (i : ℕ) → f.backward ≡ false → Tells f ss →
-    gather f.join kept (enters f i) (passing (has (get_or (sets_of (take (rows f) ss)) i 0)) 448 0) ≡ incoming f (feeders f) kept i
+pub incoming_told : (f : Flow) (kept : ℕ → ℕ) (ss : List ℕ) (i : ℕ) → f.backward ≡ false → Tells f ss →
+    gather f.join kept (enters f i) (passing (has (get_or ((take (rows f) ss)) i 0)) 448 0) ≡ incoming f (feeders f) kept i
 unfolding incoming
 incoming_told f kept ss i b told = ap (gather f.join kept (enters f i)) (feeders_told f ss i b told)
 
 -- ---- for callers: what the answer of solving means
 
-pub answered : (r : Bool) (f : Flow) (facts facts' sets sets' : List NodeSet) → Answers r f facts facts' sets sets' → r ≡ true → Solved f facts facts' sets sets'
+pub answered : (r : Bool) (f : Flow) (facts facts' sets sets' : List ℕ) → Answers r f facts facts' sets sets' → r ≡ true → Solved f facts facts' sets sets'
 answered true f facts facts' sets sets' a e = a
 answered false f facts facts' sets sets' a e = absurd (both_ways false refl e)
 
-pub refused : (r : Bool) (f : Flow) (facts facts' sets sets' : List NodeSet) → Answers r f facts facts' sets sets' → r ≡ false → (facts' ≡ facts) × (sets' ≡ sets)
+pub refused : (r : Bool) (f : Flow) (facts facts' sets sets' : List ℕ) → Answers r f facts facts' sets sets' → r ≡ false → (facts' ≡ facts) × (sets' ≡ sets)
 refused true f facts facts' sets sets' a e = absurd (both_ways true e refl)
 refused false f facts facts' sets sets' a e = a

@@ -7,13 +7,14 @@ use Rattle.counting.proofs.Searches.{least_le, least_below, least_found}
 use Rattle.sets.specs.Sets.{has, single}
 use Rattle.sets.proofs.Members.{has_union, has_single, has_none, same_members}
 use Rattle.facts.specs.Flow.{Flow, rows, holds, holders, comers, turns, gather}
-use Rattle.facts.specs.Solving.{listed, passing}
+use Rattle.sets.specs.Rising.{passing}
+use Rattle.facts.specs.Solving.{listed}
 
 below_pow : (n : ℕ) → n < 2 ^ n
 below_pow zero = omega arith
 below_pow (suc n) = omega (arith, below_pow n, pow-suc 2 n)
 
--- sets with the same members are equal
+-- sets with the same are equal
 pub same_sets : (a b : ℕ) → ((k : ℕ) → has a k ≡ has b k) → a ≡ b
 same_sets a b h = same_members (a + b) a b (small a (a + b) (omega arith)) (small b (a + b) (omega arith)) (λ k _. h k)
   where
@@ -81,52 +82,14 @@ comers_passing next i x n l h =
     ∙ sym (passing_end (has x) (length next) (n - length next) 0 (λ k b. h k ∙ ap (λ (ks : List ℕ). holds ks i) (get_or_past next k [] (omega arith))))
     ∙ ap (λ (m : ℕ). passing (has x) m 0) e
 
-passing_skip : (t : ℕ → Bool) (d n b : ℕ) → ((k : ℕ) → b ≤ k → k < b + d → t k ≡ false) → passing t (d + n) b ≡ passing t n (b + d)
-unfolding passing
-passing_skip t zero n b h = let z : 0 + n ≡ n = omega arith in let y : b + 0 ≡ b = omega arith in rw (z, y)
-passing_skip t (suc d) n b h =
-    let s : suc d + n ≡ suc (d + n) = omega arith in
-    let y : b + suc d ≡ suc b + d = omega arith in
-    rw (s, h b (omega arith) (omega arith), y) (passing_skip t d n (suc b) (λ k l u. h k (omega arith) (omega arith)))
-
--- the search from a number on leads to the first that is left
-pub passing_next : (t : ℕ → Bool) (n b j : ℕ) → b ≤ n → j ≡ least (λ k. leb b k && t k) n → (passing t (n - b) b ≡ passing t (n - j) j) × (j < n → t j ≡ true) × (b ≤ j)
-passing_next t n b j l e = (go, found, start)
-  where
-    le : j ≤ n
-    le = omega (arith, e, least_le (λ k. leb b k && t k) n)
-
-    found : j < n → t j ≡ true
-    found h = (and_parts (leb b j) (t j) (rw (← e) at (least_found (λ k. leb b k && t k) n (rw (← e) h)))).1
-
-    low : (k : ℕ) → b ≤ k → k < j → t k ≡ false
-    low k h u = let f = least_below (λ k. leb b k && t k) n k (rw (← e) u) in rw (le-leb b k h) at f
-
-    start : b ≤ j
-    start = elim (cases_lt j b) [
-      | inl u ↦ absurd (let f : (leb b j && t j) ≡ true = rw (← e) at (least_found (λ k. leb b k && t k) n (rw (← e) (omega arith))) in
-          both_ways (leb b j) (lt-leb b j u) (and_parts (leb b j) (t j) f).0)
-      | inr u ↦ u
-    ]
-
-    go : passing t (n - b) b ≡ passing t (n - j) j
-    go =
-        let p : (j - b) + (n - j) ≡ n - b = omega (arith, start, le) in
-        let q : b + (j - b) ≡ j = omega (arith, start) in
-        let s = passing_skip t (j - b) (n - j) b (λ k x y. low k x (omega arith)) in
-        rw (p, q) at s
-
-pub passing_here : (t : ℕ → Bool) (n j : ℕ) → j < n → t j ≡ true → passing t (n - j) j ≡ j ∷ passing t (n - (j + 1)) (j + 1)
-unfolding passing
-passing_here t n j l h =
-    let e : n - j ≡ suc (n - (j + 1)) = omega arith in
-    let s : suc j ≡ j + 1 = omega arith in
-    rw (e, h, s)
-
-pub gather_more : (join : ℕ → ℕ → ℕ) (kept : ℕ → ℕ) (x : ℕ) (js : List ℕ) (k : ℕ) → k < length js →
-    gather join kept x (drop k js) ≡ gather join kept (join x (kept (get_or js k 0))) (drop (k + 1) js)
+-- one row more of a walk, and its end
+pub gather_next : (join : ℕ → ℕ → ℕ) (kept : ℕ → ℕ) (x y j : ℕ) (xs rest : List ℕ) → xs ≡ j ∷ rest → y ≡ join x (kept j) → gather join kept y rest ≡ gather join kept x xs
 unfolding gather
-gather_more join kept x js k l = rw (drop_more js k 0 l)
+gather_next join kept x y j xs rest e f = rw (e, f)
+
+pub gather_last : (join : ℕ → ℕ → ℕ) (kept : ℕ → ℕ) (x : ℕ) (xs : List ℕ) → xs ≡ [] → gather join kept x xs ≡ x
+unfolding gather
+gather_last join kept x xs e = rw e
 
 range_at : (n j k : ℕ) → k < n → get_or (range n j) k 0 ≡ j + k
 unfolding range
@@ -147,15 +110,3 @@ turn_backward f k b l = rw b (down_at (rows f) k l)
 pub turn_forward : (f : Flow) (k : ℕ) → f.backward ≡ false → k < rows f → get_or (turns f) k 0 ≡ k
 unfolding turns
 turn_forward f k b l = rw b (omega (arith, range_at (rows f) 0 k l))
-
--- one row more of a walk: from the fact x at row j to the fact y at the next row
-pub walk_more : (join : ℕ → ℕ → ℕ) (kept : ℕ → ℕ) (t : ℕ → Bool) (n x y j i : ℕ) → j < n → t j ≡ true → y ≡ join x (kept j) → i ≡ least (λ k. leb (j + 1) k && t k) n →
-    gather join kept y (passing t (n - i) i) ≡ gather join kept x (passing t (n - j) j)
-unfolding gather
-walk_more join kept t n x y j i l h e s =
-    ap (gather join kept y) (sym (passing_next t n (j + 1) i (omega arith) s).0) ∙ ap (λ (z : ℕ). gather join kept z (passing t (n - (j + 1)) (j + 1))) e
-    ∙ ap (gather join kept x) (sym (passing_here t n j l h))
-
-pub walk_end : (join : ℕ → ℕ → ℕ) (kept : ℕ → ℕ) (t : ℕ → Bool) (n x j : ℕ) → n ≤ j → gather join kept x (passing t (n - j) j) ≡ x
-unfolding gather passing
-walk_end join kept t n x j l = let z : n - j ≡ 0 = omega arith in rw z

@@ -1,11 +1,12 @@
 #![tactic(auto)]
 
-ghost use Rattle.std.specs.Prelude.{◌≡◌, ℕ, ◌<◌, ◌≤◌, true, false, not, [], ◌∷◌, length, take, drop, set, ◌==◌, slice_index, slice_index_or};
-ghost use Rattle.sets.specs.Sets.{has};
-ghost use Rattle.sets.specs.Words.{members, sets_of};
+ghost use Rattle.std.specs.Prelude.{◌≡◌, ℕ, ◌<◌, ◌≤◌, true, false, not, [], ◌∷◌, length, take, drop, set, is_ok, ◌==◌, slice_index, slice_index_or};
+ghost use Rattle.sets.specs.Rising.{rising};
+ghost use Rattle.rows.specs.Rows.{rows_left};
 ghost use Rattle.facts.specs.Flow.{Flow, Lawful, rows as rows_of, feeders, turns, enters, at, gather, incoming as incoming_of, yields, sweep as swept, solved};
-ghost use Rattle.facts.specs.Solving.{Listing, comer_sets, passing, suffices, Tells, Answers};
+ghost use Rattle.facts.specs.Solving.{Listing, comer_sets, suffices, Tells, Answers};
 
+use rows::Ways;
 use sets::{NodeSet, clear};
 
 // A kind of fact over the rows of a program, and the laws under which its equations have a least solution.
@@ -18,57 +19,51 @@ pub trait FactKind {
     fn rows(&self) -> usize
         ensures { result ≡ rows_of (flow self.now) };
 
-    // How many rows row i may go on to, and the k-th of them.
-    fn ways(&self, i: usize) -> usize
-        ensures { result ≡ length (slice_index_or (flow self.now).next i []) };
-
-    fn way(&self, i: usize, k: usize) -> usize
-        ensures { result ≡ slice_index (slice_index_or (flow self.now).next i []) k };
+    // The rows that row i may go on to.
+    fn ways(&self, i: usize) -> Ways
+        ensures { rows_left result ≡ slice_index_or (flow self.now).next i [] };
 
     fn backward(&self) -> bool
         ensures { result ≡ (flow self.now).backward };
 
     fn entry(&self) -> NodeSet
-        ensures { members result ≡ (flow self.now).entry };
+        ensures { result ≡ (flow self.now).entry };
 
     fn least(&self) -> NodeSet
-        ensures { members result ≡ (flow self.now).least };
+        ensures { result ≡ (flow self.now).least };
 
     fn join(&self, a: NodeSet, b: NodeSet) -> NodeSet
-        ensures { members result ≡ (flow self.now).join (members a) (members b) };
+        ensures { result ≡ (flow self.now).join a b };
 
     fn step(&self, i: usize, x: NodeSet) -> NodeSet
-        ensures { members result ≡ (flow self.now).step i (members x) };
+        ensures { result ≡ (flow self.now).step i x };
 }
+
+// The memory lent has too few sets for the rows.
+#[derive(Clone, Copy, PartialEq, Eq)]
+pub struct NoRoom;
 
 // What enters at row i from outside.
 fn entering<K: FactKind>(kind: &K, i: usize) -> NodeSet
-    ensures { members result ≡ enters (K.FactKind.flow kind.now) i }
+    ensures { result ≡ enters (K.FactKind.flow kind.now) i }
 {
     let last = kind.rows().saturating_sub(1);
     let first = if kind.backward() { last } else { 0 };
-    if i == first {
-        return kind.entry();
-    }
-    kind.least()
+    if i == first { kind.entry() } else { kind.least() }
 }
 
 fn fact_at<K: FactKind>(kind: &K, facts: &[NodeSet], j: usize) -> NodeSet
-    ensures { members result ≡ at (K.FactKind.flow kind.now) (sets_of facts.now) j }
+    ensures { result ≡ at (K.FactKind.flow kind.now) facts.now j }
 {
-    if j < facts.len() {
-        return facts[j];
-    }
-    kind.least()
+    facts.get(j).copied().unwrap_or_else(|| kind.least())
 }
 
 // What comes to row i from the rows that it goes on to.
 fn from_ways<K: FactKind>(kind: &K, facts: &[NodeSet], i: usize) -> NodeSet
-    ensures { let f = K.FactKind.flow kind.now in members result ≡ gather f.join (at f (sets_of facts.now)) (enters f i) (slice_index_or f.next i []) }
+    ensures { let f = K.FactKind.flow kind.now in result ≡ gather f.join (at f facts.now) (enters f i) (slice_index_or f.next i []) }
 {
     let mut all = entering(kind, i);
-    for k in 0..kind.ways(i) {
-        let j = kind.way(i, k);
+    for j in kind.ways(i) {
         let handed = fact_at(kind, facts, j);
         all = kind.join(all, handed);
     }
@@ -77,37 +72,27 @@ fn from_ways<K: FactKind>(kind: &K, facts: &[NodeSet], i: usize) -> NodeSet
 
 // What comes to row i from the rows of a set, the lowest first.
 fn from_set<K: FactKind>(kind: &K, facts: &[NodeSet], set: NodeSet, i: usize) -> NodeSet
-    ensures { let f = K.FactKind.flow kind.now in members result ≡ gather f.join (at f (sets_of facts.now)) (enters f i) (passing (has (members set)) 448 0) }
+    ensures { let f = K.FactKind.flow kind.now in result ≡ gather f.join (at f facts.now) (enters f i) (rising set) }
 {
     let mut all = entering(kind, i);
-    let mut j = set.next(0);
-    while j < NodeSet::CAPACITY {
+    for j in set {
         let x = fact_at(kind, facts, j);
         all = kind.join(all, x);
-        j = set.next(j + 1);
     }
     all
 }
 
-fn set_at(sets: &[NodeSet], i: usize) -> NodeSet
-    ensures { members result ≡ slice_index (sets_of sets.now) i }
-{
-    if i < sets.len() {
-        return sets[i];
-    }
-    NodeSet::empty()
-}
-
 // What comes to row i where the rows keep the facts of `facts`; of a row for which there is no room in `comers` only what enters.
 pub fn incoming<K: FactKind>(kind: &K, facts: &[NodeSet], comers: &[NodeSet], i: usize) -> NodeSet
-    ensures { let f = K.FactKind.flow kind.now in Tells f comers.now → members result ≡ incoming_of f (feeders f) (at f (sets_of (take (rows_of f) facts.now))) i }
+    ensures { let f = K.FactKind.flow kind.now in Tells f comers.now → result ≡ incoming_of f (feeders f) (at f (take (rows_of f) facts.now)) i }
 {
     let n = kind.rows();
     let held = &facts[..n.min(facts.len())];
     if kind.backward() {
         return from_ways(kind, held, i);
     }
-    let set = set_at(&comers[..n.min(comers.len())], i);
+    let told = &comers[..n.min(comers.len())];
+    let set = told.get(i).copied().unwrap_or(NodeSet::EMPTY);
     from_set(kind, held, set, i)
 }
 
@@ -116,14 +101,14 @@ fn visit<K: FactKind>(kind: &K, facts: &mut [NodeSet], comers: &[NodeSet], i: us
     requires rows { length facts.old ≡ rows_of (K.FactKind.flow kind.now) }
     requires inside { i < length facts.old }
     requires told { Tells (K.FactKind.flow kind.now) comers.now }
-    ensures yielded { let f = K.FactKind.flow kind.now in sets_of facts.new ≡ set (sets_of facts.old) i (yields f (feeders f) (at f (sets_of facts.old)) i) }
-    ensures fresh { let f = K.FactKind.flow kind.now in result ≡ not (yields f (feeders f) (at f (sets_of facts.old)) i == at f (sets_of facts.old) i) }
+    ensures yielded { let f = K.FactKind.flow kind.now in facts.new ≡ set facts.old i (yields f (feeders f) (at f facts.old) i) }
+    ensures fresh { let f = K.FactKind.flow kind.now in result ≡ not (yields f (feeders f) (at f facts.old) i == at f facts.old i) }
 {
     let came = incoming(kind, facts, comers, i);
     let new = kind.step(i, came);
     let old = facts[i];
     facts[i] = new;
-    !new.equals(&old)
+    new != old
 }
 
 // The row whose turn is the k-th.
@@ -141,14 +126,14 @@ fn turn<K: FactKind>(kind: &K, k: usize) -> usize
 fn sweep<K: FactKind>(kind: &K, facts: &mut [NodeSet], comers: &[NodeSet]) -> bool
     requires rows { length facts.old ≡ rows_of (K.FactKind.flow kind.now) }
     requires told { Tells (K.FactKind.flow kind.now) comers.now }
-    ensures visited { let f = K.FactKind.flow kind.now in sets_of facts.new ≡ (swept f (feeders f) (turns f) (sets_of facts.old) false).kept }
-    ensures fresh { let f = K.FactKind.flow kind.now in result ≡ (swept f (feeders f) (turns f) (sets_of facts.old) false).altered }
+    ensures visited { let f = K.FactKind.flow kind.now in facts.new ≡ (swept f (feeders f) (turns f) facts.old false).kept }
+    ensures fresh { let f = K.FactKind.flow kind.now in result ≡ (swept f (feeders f) (turns f) facts.old false).altered }
 {
     let mut altered = false;
     for k in 0..facts.len() {
         let i = turn(kind, k);
         let fresh = visit(kind, facts, comers, i);
-        altered = altered | fresh;
+        altered |= fresh;
     }
     altered
 }
@@ -157,22 +142,19 @@ fn sweep<K: FactKind>(kind: &K, facts: &mut [NodeSet], comers: &[NodeSet]) -> bo
 fn settle<K: FactKind>(kind: &K, facts: &mut [NodeSet], comers: &[NodeSet])
     requires rows { length facts.old ≡ rows_of (K.FactKind.flow kind.now) }
     requires told { Tells (K.FactKind.flow kind.now) comers.now }
-    ensures { sets_of facts.new ≡ solved (K.FactKind.flow kind.now) }
+    ensures { facts.new ≡ solved (K.FactKind.flow kind.now) }
 {
-    for i in 0..facts.len() {
-        facts[i] = kind.least();
-    }
+    facts.fill(kind.least());
     while sweep(kind, facts, comers) {}
 }
 
-// Adds row j to the comers of row i, if there is a row i.
-fn list_one(sets: &mut [NodeSet], i: usize, j: usize)
+// Adds j to the set at place i, if there is one.
+pub fn list_one(sets: &mut [NodeSet], i: usize, j: usize)
     requires { j < 448 }
     ensures { Listing sets.old sets.new j (i ∷ []) }
 {
     if i < sets.len() {
-        let set = sets[i];
-        sets[i] = set.with(j);
+        sets[i] = sets[i].with(j);
     }
 }
 
@@ -181,8 +163,7 @@ fn list_ways<K: FactKind>(kind: &K, sets: &mut [NodeSet], j: usize)
     requires { j < 448 }
     ensures { Listing sets.old sets.new j (slice_index_or (K.FactKind.flow kind.now).next j []) }
 {
-    for k in 0..kind.ways(j) {
-        let i = kind.way(j, k);
+    for i in kind.ways(j) {
         list_one(sets, i, j);
     }
 }
@@ -191,7 +172,7 @@ fn list_ways<K: FactKind>(kind: &K, sets: &mut [NodeSet], j: usize)
 fn list_all<K: FactKind>(kind: &K, sets: &mut [NodeSet])
     requires rows { length sets.old ≡ rows_of (K.FactKind.flow kind.now) }
     requires few { length sets.old ≤ 448 }
-    ensures { sets_of sets.new ≡ comer_sets (K.FactKind.flow kind.now).next }
+    ensures { sets.new ≡ comer_sets (K.FactKind.flow kind.now).next }
 {
     clear(sets, sets.len());
     for j in 0..sets.len() {
@@ -221,15 +202,19 @@ fn memory_suffices<K: FactKind>(kind: &K, facts: usize, comers: usize) -> bool
 }
 
 // Solves the equations of a kind in the memory lent, if it suffices: one set for each row, and for a forward kind another.
-pub fn solve<K: FactKind>(kind: &K, facts: &mut [NodeSet], comers: &mut [NodeSet]) -> bool
-    ensures room { result ≡ suffices (K.FactKind.flow kind.now) (length facts.old) (length comers.old) }
-    ensures answer { Answers result (K.FactKind.flow kind.now) facts.old facts.new comers.old comers.new }
+pub fn solve<K: FactKind>(
+    kind: &K,
+    facts: &mut [NodeSet],
+    comers: &mut [NodeSet],
+) -> Result<(), NoRoom>
+    ensures room { is_ok result ≡ suffices (K.FactKind.flow kind.now) (length facts.old) (length comers.old) }
+    ensures answer { Answers (is_ok result) (K.FactKind.flow kind.now) facts.old facts.new comers.old comers.new }
 {
     if !memory_suffices(kind, facts.len(), comers.len()) {
-        return false;
+        return Err(NoRoom);
     }
     let n = kind.rows();
     list_comers(kind, comers);
     settle(kind, &mut facts[..n], comers);
-    true
+    Ok(())
 }

@@ -1,5 +1,5 @@
--- Every fault by its number, its place and its layer.
-use Rattle.std.specs.Prelude.{ℕ}
+-- Every fault by its number, its place and its layer, and these in words.
+use Rattle.std.specs.Prelude.{ℕ, List, ◌++◌, codes, decimal}
 use Rattle.faults.specs.declared.Layer.{Layer}
 use Rattle.faults.specs.declared.Layer.TheVariants.{Bits as BitLayer, Rows as RowLayer, Program as ProgramLayer, Player as PlayerLayer}
 use Rattle.faults.specs.declared.Refusal.{Refusal}
@@ -46,3 +46,14 @@ program_refusal (Memory part) = told ProgramLayer 15 part
 abbrev pub player_refusal : PlayerFault → Refusal
 player_refusal Input = told PlayerLayer 16 0
 player_refusal Asked = told PlayerLayer 17 0
+
+-- the name of a layer
+abbrev pub layer_name : Layer → List ℕ
+layer_name BitLayer = codes "bits"
+layer_name RowLayer = codes "rows"
+layer_name ProgramLayer = codes "program"
+layer_name PlayerLayer = codes "player"
+
+-- a refusal in words: its number, its place, its layer
+abbrev pub refusal_text : Refusal → List ℕ
+refusal_text r = decimal r.number ++ (codes " " ++ (decimal r.place ++ (codes " " ++ layer_name r.layer)))

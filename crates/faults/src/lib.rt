@@ -1,12 +1,14 @@
 #![tactic(auto)]
 
-ghost use Rattle.std.specs.Prelude.{◌≡◌};
+ghost use Rattle.std.specs.Prelude.{◌≡◌, Some};
 ghost use Rattle.faults.specs.declared.ProgramFault.TheVariants.{Rows};
 ghost use Rattle.faults.specs.declared.RowFault.TheVariants.{Bits};
-ghost use Rattle.faults.specs.Refusals.{bit_refusal, row_refusal, program_refusal, player_refusal};
+ghost use Rattle.faults.specs.Refusals.{bit_refusal, row_refusal, program_refusal, player_refusal, layer_name, refusal_text};
+
+use std::fmt;
 
 // Where in the work a refusal arose.
-#[derive(Clone, Copy)]
+#[derive(Clone, Copy, Debug, PartialEq, Eq)]
 pub enum Layer {
     Bits,
     Rows,
@@ -15,15 +17,41 @@ pub enum Layer {
 }
 
 // A refusal as it is told: what was wrong, by number, where, and in which layer.
-#[derive(Clone, Copy)]
+#[derive(Clone, Copy, Debug, PartialEq, Eq)]
 pub struct Refusal {
     pub number: u8,
     pub place: u16,
     pub layer: Layer,
 }
 
+impl fmt::Display for Layer {
+    ghost output = { λ layer. Some (layer_name layer) };
+
+    fn fmt<W: fmt::Write>(&self, f: &mut fmt::Formatter<W>) -> fmt::Result {
+        f.write_str(match self {
+            Layer::Bits => "bits",
+            Layer::Rows => "rows",
+            Layer::Program => "program",
+            Layer::Player => "player",
+        })
+    }
+}
+
+impl fmt::Display for Refusal {
+    ghost output = { λ refusal. Some (refusal_text refusal) };
+
+    fn fmt<W: fmt::Write>(&self, f: &mut fmt::Formatter<W>) -> fmt::Result {
+        let Refusal {
+            number,
+            place,
+            layer,
+        } = *self;
+        write!(f, "{number} {place} {layer}")
+    }
+}
+
 // What may be wrong with a file as a row of bits.
-#[derive(Clone, Copy)]
+#[derive(Clone, Copy, Debug, PartialEq, Eq)]
 pub enum BitFault {
     Short,
     Long,
@@ -34,7 +62,7 @@ pub enum BitFault {
 }
 
 // What may be wrong with a row.
-#[derive(Clone, Copy)]
+#[derive(Clone, Copy, Debug, PartialEq, Eq)]
 pub enum RowFault {
     Bits(BitFault),
     Opcode(u16),
@@ -46,7 +74,7 @@ pub enum RowFault {
 }
 
 // What may be wrong with the rows together, or with the memory.
-#[derive(Clone, Copy)]
+#[derive(Clone, Copy, Debug, PartialEq, Eq)]
 pub enum ProgramFault {
     Rows(RowFault),
     Unreached(u16),
@@ -55,7 +83,7 @@ pub enum ProgramFault {
 }
 
 // What may be wrong with a call on a rehearsal. It stands alone.
-#[derive(Clone, Copy)]
+#[derive(Clone, Copy, Debug, PartialEq, Eq)]
 pub enum PlayerFault {
     Input,
     Asked,
@@ -77,11 +105,11 @@ impl From<RowFault> for ProgramFault {
     }
 }
 
-impl BitFault {
-    pub fn refusal(self) -> Refusal
-        ensures { result ≡ bit_refusal self }
-    {
-        let (number, place) = match self {
+impl From<BitFault> for Refusal {
+    ghost from_gives = { λ fault refusal. refusal ≡ bit_refusal fault };
+
+    fn from(fault: BitFault) -> Refusal {
+        let (number, place) = match fault {
             BitFault::Short => (1, 0),
             BitFault::Long => (2, 0),
             BitFault::Variables => (3, 0),
@@ -97,12 +125,12 @@ impl BitFault {
     }
 }
 
-impl RowFault {
-    pub fn refusal(self) -> Refusal
-        ensures { result ≡ row_refusal self }
-    {
-        let (number, place) = match self {
-            RowFault::Bits(fault) => return fault.refusal(),
+impl From<RowFault> for Refusal {
+    ghost from_gives = { λ fault refusal. refusal ≡ row_refusal fault };
+
+    fn from(fault: RowFault) -> Refusal {
+        let (number, place) = match fault {
+            RowFault::Bits(fault) => return fault.into(),
             RowFault::Opcode(row) => (7, row),
             RowFault::Unused(row) => (8, row),
             RowFault::Variable(row) => (9, row),
@@ -118,12 +146,12 @@ impl RowFault {
     }
 }
 
-impl ProgramFault {
-    pub fn refusal(self) -> Refusal
-        ensures { result ≡ program_refusal self }
-    {
-        let (number, place) = match self {
-            ProgramFault::Rows(fault) => return fault.refusal(),
+impl From<ProgramFault> for Refusal {
+    ghost from_gives = { λ fault refusal. refusal ≡ program_refusal fault };
+
+    fn from(fault: ProgramFault) -> Refusal {
+        let (number, place) = match fault {
+            ProgramFault::Rows(fault) => return fault.into(),
             ProgramFault::Unreached(row) => (13, row),
             ProgramFault::Unwritten(row) => (14, row),
             ProgramFault::Memory(part) => (15, part),
@@ -136,11 +164,11 @@ impl ProgramFault {
     }
 }
 
-impl PlayerFault {
-    pub fn refusal(self) -> Refusal
-        ensures { result ≡ player_refusal self }
-    {
-        let number = match self {
+impl From<PlayerFault> for Refusal {
+    ghost from_gives = { λ fault refusal. refusal ≡ player_refusal fault };
+
+    fn from(fault: PlayerFault) -> Refusal {
+        let number = match fault {
             PlayerFault::Input => 16,
             PlayerFault::Asked => 17,
         };

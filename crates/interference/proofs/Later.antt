@@ -2,9 +2,8 @@
 use Rattle.std.proofs.Common.{◌≡◌, ℕ, suc, ◌+◌, ◌-◌, ◌<◌, ◌≤◌, Bool, true, false, cond, ◌&&◌, eqb, leb, List, [], ◌∷◌, ◌++◌, map, length, get_or, take, drop, sym, refl, ap, ◌∙◌, ap₂, arith}
 use Rattle.std.proofs.lemmas.List.{drop_more, drop_all}
 use Rattle.counting.specs.Counting.{range}
-use Rattle.sets.specs.declared.NodeSet.{NodeSet}
 use Rattle.sets.specs.Sets.{has, single, union, when}
-use Rattle.sets.specs.Words.{members, sets_of, no_set, cleared}
+use Rattle.sets.specs.Words.{cleared}
 use Rattle.rows.specs.declared.Row.{Row}
 use Rattle.rows.specs.Rows.{shape, writes, row_at, end_row}
 use Rattle.rows.proofs.Fields.{members_empty}
@@ -18,42 +17,42 @@ use Rattle.interference.specs.Building.{Joined, Neighbours}
 -- ---- sets that hold neighbours
 
 -- a list of sets by place, and the same with something added to each
-added : (f g : ℕ → ℕ) (j : ℕ) (was after : List NodeSet) → length after ≡ length was → sets_of was ≡ map f (range (length was) j) →
-    ((k : ℕ) → k < length was → members (get_or after k no_set) ≡ union (g (j + k)) (members (get_or was k no_set))) → sets_of after ≡ map (λ v. union (g v) (f v)) (range (length after) j)
+added : (f g : ℕ → ℕ) (j : ℕ) (was after : List ℕ) → length after ≡ length was → was ≡ map f (range (length was) j) →
+    ((k : ℕ) → k < length was → (get_or after k 0) ≡ union (g (j + k)) ((get_or was k 0))) → after ≡ map (λ v. union (g v) (f v)) (range (length after) j)
 unfolding range
 added f g j [] [] l e h = refl
 added f g j [] (b ∷ bs) l e h = absurd (omega arith)
 added f g j (w ∷ ws) [] l e h = absurd (omega arith)
 added f g j (w ∷ ws) (b ∷ bs) l e h =
     let z : j + 0 ≡ j = omega arith in
-    let head : members w ≡ f j = cc in
-    let tail : sets_of ws ≡ map f (range (length ws) (suc j)) = cc in
-    let here : members b ≡ union (g j) (f j) = h 0 (omega arith) ∙ ap₂ (λ (n x : ℕ). union (g n) x) z head in
-    let rest = added f g (suc j) ws bs (omega arith) tail (λ k u. let s : j + suc k ≡ suc j + k = omega arith in h (suc k) (omega arith) ∙ ap (λ (n : ℕ). union (g n) (members (get_or ws k no_set))) s) in
+    let head : w ≡ f j = cc in
+    let tail : ws ≡ map f (range (length ws) (suc j)) = cc in
+    let here : b ≡ union (g j) (f j) = h 0 (omega arith) ∙ ap₂ (λ (n x : ℕ). union (g n) x) z head in
+    let rest = added f g (suc j) ws bs (omega arith) tail (λ k u. let s : j + suc k ≡ suc j + k = omega arith in h (suc k) (omega arith) ∙ ap (λ (n : ℕ). union (g n) ((get_or ws k 0))) s) in
     ap₂ ◌∷◌ here rest
 
-neighbours_more : (side : Reason → ℕ) (r : Reason) (rs : List Reason) (was after : List NodeSet) → length after ≡ length was → Joined r.d (side r) was after →
+neighbours_more : (side : Reason → ℕ) (r : Reason) (rs : List Reason) (was after : List ℕ) → length after ≡ length was → Joined r.d (side r) was after →
     Neighbours side rs was → Neighbours side (r ∷ rs) after
 unfolding near
 neighbours_more side r rs was after l joined e =
     added (near side rs) (λ v. cond (eqb v r.d) (side r) (when (has (side r) v) (single r.d))) 0 was after l e
-    (λ k h. let z : k ≡ 0 + k = omega arith in joined k h ∙ ap (λ (v : ℕ). union (cond (eqb v r.d) (side r) (when (has (side r) v) (single r.d))) (members (get_or was k no_set))) z)
+    (λ k h. let z : k ≡ 0 + k = omega arith in joined k h ∙ ap (λ (v : ℕ). union (cond (eqb v r.d) (side r) (when (has (side r) v) (single r.d))) ((get_or was k 0))) z)
 
-emptied : (side : Reason → ℕ) (j : ℕ) (ss : List NodeSet) → sets_of (cleared (length ss) ss) ≡ map (near side []) (range (length (cleared (length ss) ss)) j)
+emptied : (side : Reason → ℕ) (j : ℕ) (ss : List ℕ) → (cleared (length ss) ss) ≡ map (near side []) (range (length (cleared (length ss) ss)) j)
 unfolding near range
 emptied side j [] = refl
 emptied side j (s ∷ ss) = ap₂ ◌∷◌ members_empty (emptied side (suc j) ss)
 
 -- cleared sets hold what no reason gives
-pub neighbours_none : (side : Reason → ℕ) (n : ℕ) (was after : List NodeSet) → n ≡ length was → after ≡ cleared n was → Neighbours side [] after
+pub neighbours_none : (side : Reason → ℕ) (n : ℕ) (was after : List ℕ) → n ≡ length was → after ≡ cleared n was → Neighbours side [] after
 neighbours_none side n was after e is = rw (is, e) (emptied side 0 was)
 
 -- a row that writes has one reason, and another none
-pub neighbours_written : (side : Reason → ℕ) (row : Row) (live others : ℕ) (was after : List NodeSet) → length after ≡ length was → (shape row.op).d ≡ true →
+pub neighbours_written : (side : Reason → ℕ) (row : Row) (live others : ℕ) (was after : List ℕ) → length after ≡ length was → (shape row.op).d ≡ true →
     others ≡ side (reason row live row.d) → Joined row.d others was after → (rs : List Reason) → Neighbours side rs was → Neighbours side (map (reason row live) (writes row) ++ rs) after
 neighbours_written side row live others was after l w is joined rs e = rw w (neighbours_more side (reason row live row.d) rs was after l (rw is at joined) e)
 
-pub neighbours_unwritten : (side : Reason → ℕ) (row : Row) (live : ℕ) (was : List NodeSet) → (shape row.op).d ≡ false →
+pub neighbours_unwritten : (side : Reason → ℕ) (row : Row) (live : ℕ) (was : List ℕ) → (shape row.op).d ≡ false →
     (rs : List Reason) → Neighbours side rs was → Neighbours side (map (reason row live) (writes row) ++ rs) was
 neighbours_unwritten side row live was w rs e = rw w e
 
@@ -79,7 +78,7 @@ later_more rows i j e l =
     rw (drop_more rows j end_row l, n, e, s)
 
 -- a row more, the rows being gone through from the last to the first
-pub neighbours_row : (side : Reason → ℕ) (rows : List Row) (i j live : ℕ) (was now : List NodeSet) → j + 1 ≡ i → j < length rows → live ≡ after rows j →
+pub neighbours_row : (side : Reason → ℕ) (rows : List Row) (i j live : ℕ) (was now : List ℕ) → j + 1 ≡ i → j < length rows → live ≡ after rows j →
     ((rs : List Reason) → Neighbours side rs was → Neighbours side (map (reason (row_at rows j) live) (writes (row_at rows j)) ++ rs) now) → Neighbours side (later rows i) was → Neighbours side (later rows j) now
 neighbours_row side rows i j live was now e l is h was-so = rw (later_more rows i j e l, ← is) (h (later rows i) was-so)
 
@@ -90,18 +89,18 @@ later_all rows i e = let z : length rows - 0 ≡ length rows = omega arith in rw
 -- ---- liveness in the memory lent
 
 -- the solution that stands in the memory is what is live before each row
-pub live_before_lem : (rows : List Row) (live : List NodeSet) → sets_of (take (rows_of (liveness rows)) live) ≡ solved (liveness rows) → sets_of (take (length rows) live) ≡ live_before rows
+pub live_before_lem : (rows : List Row) (live : List ℕ) → (take (rows_of (liveness rows)) live) ≡ solved (liveness rows) → (take (length rows) live) ≡ live_before rows
 unfolding live_before
-live_before_lem rows live e = ap (λ (n : ℕ). sets_of (take n live)) (sym (nexts_length 0 rows)) ∙ e
+live_before_lem rows live e = ap (λ (n : ℕ). (take n live)) (sym (nexts_length 0 rows)) ∙ e
 
-pub live_past : (rows : List Row) (live live' : List NodeSet) → drop (rows_of (liveness rows)) live' ≡ drop (rows_of (liveness rows)) live → drop (length rows) live' ≡ drop (length rows) live
+pub live_past : (rows : List Row) (live live' : List ℕ) → drop (rows_of (liveness rows)) live' ≡ drop (rows_of (liveness rows)) live → drop (length rows) live' ≡ drop (length rows) live
 live_past rows live live' e = rw (nexts_length 0 rows) at e
 
-pub live_after_lem : (rows : List Row) (live : List NodeSet) (i x : ℕ) → sets_of (take (length rows) live) ≡ live_before rows →
-    x ≡ (let f = liveness rows in incoming f (feeders f) (at f (sets_of (take (rows_of f) live))) i) → x ≡ after rows i
+pub live_after_lem : (rows : List Row) (live : List ℕ) (i x : ℕ) → (take (length rows) live) ≡ live_before rows →
+    x ≡ (let f = liveness rows in incoming f (feeders f) (at f ((take (rows_of f) live))) i) → x ≡ after rows i
 live_after_lem rows live i x before e =
     let f = liveness rows in
-    let held : sets_of (take (rows_of f) live) ≡ live_before rows = ap (λ (n : ℕ). sets_of (take n live)) (nexts_length 0 rows) ∙ before in
+    let held : (take (rows_of f) live) ≡ live_before rows = ap (λ (n : ℕ). (take n live)) (nexts_length 0 rows) ∙ before in
     e ∙ ap (λ (kept : List ℕ). incoming f (feeders f) (at f kept) i) held
 
 pub room : (rows : List Row) (r : Bool) (a b : ℕ) → r ≡ suffices (liveness rows) a b → r ≡ leb (length rows) a

@@ -3,6 +3,7 @@ ghost use Rattle.rounds.proofs.Lively.{liveness_lawful};
 
 use admission::graph::Graph;
 use facts::FactKind;
+use rows::Ways;
 use sets::NodeSet;
 
 // Liveness: which variables a row further on may read before they are written again.
@@ -20,12 +21,8 @@ impl<'a> FactKind for Liveness<'a> {
         self.graph.len()
     }
 
-    fn ways(&self, i: usize) -> usize {
+    fn ways(&self, i: usize) -> Ways {
         self.graph.ways(i)
-    }
-
-    fn way(&self, i: usize, k: usize) -> usize {
-        self.graph.way(i, k)
     }
 
     fn backward(&self) -> bool {

@@ -1,10 +1,13 @@
 -- Rows: what each opcode uses, reads and writes, and where it goes on.
-use Rattle.std.specs.Prelude.{ℕ, suc, ◌*◌, ◌^◌, Bool, true, false, cond, ◌&&◌, Some, None, Option, List, [], ◌∷◌, ◌++◌, ◌==◌, nat_lt, slice_index_or}
+use Rattle.std.specs.Prelude.{ℕ, suc, ◌*◌, ◌^◌, Bool, true, false, cond, ◌&&◌, Some, None, Ok, Err, Option, Result, List, [], ◌∷◌, ◌++◌, ◌==◌, nat_lt, slice_index_or}
+use Rattle.std.specs.Option.{option_to_list}
 use Rattle.sets.specs.Sets.{union, single, when}
 use Rattle.rows.specs.declared.Op.{Op}
 use Rattle.rows.specs.declared.Op.TheVariants.{End, Const, Copy, Add, Sub, And, Xor, Widen, Narrow, Input, Output, Jump, Less, Load, Store}
 use Rattle.rows.specs.declared.Shape.{Shape}
 use Rattle.rows.specs.declared.Row.{Row}
+use Rattle.rows.specs.declared.UnknownOpcode.{UnknownOpcode}
+use Rattle.rows.specs.declared.Ways.{Ways}
 
 -- which fields an opcode uses, and whether the row below may follow it
 abbrev pub uses : (d a b constant target slot falls : Bool) → Shape
@@ -70,6 +73,10 @@ writes r = only (shape r.op).d r.d
 abbrev pub next : ℕ → Row → List ℕ
 next i r = only (shape r.op).target r.target ++ only (shape r.op).falls (suc i)
 
+-- the rows that are left of the ways of a row
+abbrev pub rows_left : Ways → List ℕ
+rows_left w = option_to_list w.target ++ option_to_list w.below
+
 -- the set of the numbers of a list; a number of 448 or more finds no place in a node set
 unfoldable pub set_of : List ℕ → ℕ
 set_of [] = 0
@@ -100,6 +107,10 @@ opcode Store = 15
 -- the opcode of a number in a source file, where those above 12 have no place
 abbrev pub op_of : ℕ → Op
 op_of n = slice_index_or (End ∷ Const ∷ Copy ∷ Add ∷ Sub ∷ And ∷ Xor ∷ Widen ∷ Narrow ∷ Input ∷ Output ∷ Jump ∷ Less ∷ []) n End
+
+-- the opcode that a source file writes as a number; none above 12, for loads and stores stand in no file
+abbrev pub op_in_source : ℕ → Result Op UnknownOpcode
+op_in_source n = cond (nat_lt 12 n) (Err (record { 0 = n })) (Ok (op_of n))
 
 -- whether the classes of d, a and b suit an opcode
 abbrev pub fits : Op → ℕ → ℕ → ℕ → Bool

@@ -2,31 +2,33 @@
 
 pub mod lines;
 
-ghost use Rattle.std.specs.Prelude.{◌≡◌, ◌≤◌, ltb, length, take, if◌then◌else◌, Some, None, nat_lt};
+ghost use Rattle.std.specs.Prelude.{◌≡◌, nat_lt};
+ghost use Rattle.std.specs.Iterator.{YieldsFirst, item_count};
+ghost use Rattle.std.specs.Option.{option_map_or};
 ghost use Rattle.sets.specs.Sets.{union, single, when};
 ghost use Rattle.sets.specs.Words.{members};
-ghost use Rattle.rows.specs.Rows.{shape as shape_of, copies as copies_of, opcode as opcode_of, op_of, fits as fits_of, reads as reads_of, writes as writes_of, next as next_of, set_of, used};
+ghost use Rattle.rows.specs.Rows.{shape as shape_of, copies as copies_of, opcode as opcode_of, fits as fits_of, reads as reads_of, writes as writes_of, next as next_of, set_of, used, op_in_source, rows_left};
 
 use sets::NodeSet;
 
-// What a row does. Loads and stores stand in compiled code only.
-#[derive(Clone, Copy)]
+// What a row does, by the number of its opcode. Loads and stores stand in compiled code only.
+#[derive(Clone, Copy, PartialEq, Eq)]
 pub enum Op {
-    End,
-    Const,
-    Copy,
-    Add,
-    Sub,
-    And,
-    Xor,
-    Widen,
-    Narrow,
-    Input,
-    Output,
-    Jump,
-    Less,
-    Load,
-    Store,
+    End = 0,
+    Const = 1,
+    Copy = 2,
+    Add = 3,
+    Sub = 4,
+    And = 5,
+    Xor = 6,
+    Widen = 7,
+    Narrow = 8,
+    Input = 9,
+    Output = 10,
+    Jump = 11,
+    Less = 12,
+    Load = 14,
+    Store = 15,
 }
 
 // Which fields an opcode uses, and whether the row below may follow it.
@@ -53,93 +55,94 @@ const END: Shape = Shape {
 
 const CONST: Shape = Shape {
     d: true,
-    a: false,
-    b: false,
     constant: true,
-    target: false,
-    slot: false,
     falls: true,
+    ..END
 };
 
 const UNARY: Shape = Shape {
     d: true,
     a: true,
-    b: false,
-    constant: false,
-    target: false,
-    slot: false,
     falls: true,
+    ..END
 };
 
 const BINARY: Shape = Shape {
     d: true,
     a: true,
     b: true,
-    constant: false,
-    target: false,
-    slot: false,
     falls: true,
+    ..END
 };
 
 const INPUT: Shape = Shape {
     d: true,
-    a: false,
-    b: false,
-    constant: false,
-    target: false,
-    slot: false,
     falls: true,
+    ..END
 };
 
 const OUTPUT: Shape = Shape {
-    d: false,
     a: true,
-    b: false,
-    constant: false,
-    target: false,
-    slot: false,
     falls: true,
+    ..END
 };
 
 const JUMP: Shape = Shape {
-    d: false,
-    a: false,
-    b: false,
-    constant: false,
     target: true,
-    slot: false,
-    falls: false,
+    ..END
 };
 
 const LESS: Shape = Shape {
-    d: false,
     a: true,
     b: true,
-    constant: false,
     target: true,
-    slot: false,
     falls: true,
+    ..END
 };
 
 const LOAD: Shape = Shape {
     d: true,
-    a: false,
-    b: false,
-    constant: false,
-    target: false,
     slot: true,
     falls: true,
+    ..END
 };
 
 const STORE: Shape = Shape {
-    d: false,
     a: true,
-    b: false,
-    constant: false,
-    target: false,
     slot: true,
     falls: true,
+    ..END
 };
+
+// A number that no opcode of a source file has.
+#[derive(Clone, Copy, Debug, PartialEq, Eq)]
+pub struct UnknownOpcode(pub u16);
+
+impl TryFrom<u16> for Op {
+    type Error = UnknownOpcode;
+
+    ghost try_from_gives = { λ n read. read ≡ op_in_source n };
+
+    fn try_from(n: u16) -> Result<Op, UnknownOpcode> {
+        let op = match n {
+            0 => Op::End,
+            1 => Op::Const,
+            2 => Op::Copy,
+            3 => Op::Add,
+            4 => Op::Sub,
+            5 => Op::And,
+            6 => Op::Xor,
+            7 => Op::Widen,
+            8 => Op::Narrow,
+            9 => Op::Input,
+            10 => Op::Output,
+            11 => Op::Jump,
+            12 => Op::Less,
+            _ => return Err(UnknownOpcode(n)),
+        };
+        Ok(op)
+    }
+}
 
 impl Op {
     pub fn shape(self) -> Shape
@@ -162,46 +165,7 @@ impl Op {
     pub fn opcode(self) -> u8
         ensures { result ≡ opcode_of self }
     {
-        match self {
-            Op::End => 0,
-            Op::Const => 1,
-            Op::Copy => 2,
-            Op::Add => 3,
-            Op::Sub => 4,
-            Op::And => 5,
-            Op::Xor => 6,
-            Op::Widen => 7,
-            Op::Narrow => 8,
-            Op::Input => 9,
-            Op::Output => 10,
-            Op::Jump => 11,
-            Op::Less => 12,
-            Op::Load => 14,
-            Op::Store => 15,
-        }
-    }
-
-    // The opcode that a source file writes as n; None above 12, for loads and stores stand in no file.
-    pub fn in_source(n: u16) -> Option<Op>
-        ensures { result ≡ (if ltb 12 n then None else Some (op_of n)) }
-    {
-        let op = match n {
-            0 => Op::End,
-            1 => Op::Const,
-            2 => Op::Copy,
-            3 => Op::Add,
-            4 => Op::Sub,
-            5 => Op::And,
-            6 => Op::Xor,
-            7 => Op::Widen,
-            8 => Op::Narrow,
-            9 => Op::Input,
-            10 => Op::Output,
-            11 => Op::Jump,
-            12 => Op::Less,
-            _ => return None,
-        };
-        Some(op)
+        self as u8
     }
 
     // Whether the classes of d, a and b suit the opcode.
@@ -221,12 +185,13 @@ impl Op {
     pub fn copies(self) -> bool
         ensures { result ≡ copies_of self }
     {
-        matches!(self, Op::Copy)
+        self == Op::Copy
     }
 }
 
 // A row of a source program, a working program or compiled code: in code, registers stand for variables.
 // What the opcode does not use is 0. `dclass` is the class of d, `aclass` that of a and b.
+// A class stays a number, for a register file is asked about every number.
 #[derive(Clone, Copy)]
 pub struct Row {
     pub op: Op,
@@ -241,13 +206,26 @@ pub struct Row {
     pub slot: u8,
 }
 
-// The rows that a row may go on to: the first `count` of `rows`.
+// The rows that a row may go on to, its target before the row below.
 #[derive(Clone, Copy)]
 pub struct Ways {
-    pub count: usize,
-    pub rows: [usize; 2],
-    ghost few: { count ≤ 2 },
-    ghost pair: { length rows ≡ 2 },
+    pub target: Option<usize>,
+    pub below: Option<usize>,
+}
+
+impl Iterator for Ways {
+    type Item = usize;
+
+    ghost next_gives = { YieldsFirst rows_left };
+
+    ghost remaining = { item_count rows_left };
+
+    fn next(&mut self) -> Option<usize> {
+        match self.target.take() {
+            None => self.below.take(),
+            target => target,
+        }
+    }
 }
 
 impl Row {
@@ -309,47 +287,32 @@ impl Row {
     pub fn reads(self) -> NodeSet
         ensures { members result ≡ set_of (reads_of self) }
     {
-        let shape = self.op.shape();
-        with_if(with_if(NodeSet::empty(), shape.b, self.b), shape.a, self.a)
+        with(
+            with(NodeSet::empty(), self.second_read()),
+            self.first_read(),
+        )
     }
 
     pub fn writes(self) -> NodeSet
         ensures { members result ≡ set_of (writes_of self) }
     {
-        with_if(NodeSet::empty(), self.op.shape().d, self.d)
+        with(NodeSet::empty(), self.written())
     }
 
     // The rows that may follow this one, which stands at row i: its target before the row below.
     pub fn next(self, i: u16) -> Ways
-        ensures { take result.count result.rows ≡ next_of i self }
+        ensures { rows_left result ≡ next_of i self }
     {
-        let shape = self.op.shape();
-        let below = i as usize + 1;
-        let target = self.target as usize;
-        match (shape.target, shape.falls) {
-            (true, true) => Ways {
-                count: 2,
-                rows: [target, below],
-            },
-            (true, false) => Ways {
-                count: 1,
-                rows: [target, 0],
-            },
-            (false, true) => Ways {
-                count: 1,
-                rows: [below, 0],
-            },
-            (false, false) => Ways {
-                count: 0,
-                rows: [0, 0],
-            },
+        Ways {
+            target: self.target_row().map(usize::from),
+            below: self.op.shape().falls.then_some(i as usize + 1),
         }
     }
 }
 
-// The set with v too if the field that names v is in use.
-fn with_if(set: NodeSet, used: bool, v: u16) -> NodeSet
-    ensures { members result ≡ (if used then union (members set) (when (nat_lt v 448) (single v)) else members set) }
+// The set with the variable too, if there is one.
+fn with(set: NodeSet, variable: Option<u16>) -> NodeSet
+    ensures { members result ≡ option_map_or (λ v. union (members set) (when (nat_lt v 448) (single v))) variable (members set) }
 {
-    if used { set.with(v as usize) } else { set }
+    variable.map_or(set, |v| set.with(v as usize))
 }

@@ -1,4 +1,5 @@
 pub mod Members
 pub mod Orders
+pub mod Rises
 pub mod Sizes
 pub mod Words

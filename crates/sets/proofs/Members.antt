@@ -13,7 +13,7 @@ two zero h = inl refl
 two (suc zero) h = inr refl
 two (suc (suc n)) h = absurd (omega arith)
 
-digit : (x k : ℕ) → (x / 2 ^ k % 2 ≡ 0) ⊎ (x / 2 ^ k % 2 ≡ 1)
+pub digit : (x k : ℕ) → (x / 2 ^ k % 2 ≡ 0) ⊎ (x / 2 ^ k % 2 ≡ 1)
 digit x k = two _ (mod-lt _ (lit< tt))
 
 or_two : (a b : ℕ) → (a ≡ 0) ⊎ (a ≡ 1) → (b ≡ 0) ⊎ (b ≡ 1) → eqb (bit_or a b) 1 ≡ (eqb a 1 || eqb b 1)

@@ -1,2 +1,5 @@
+pub mod Rising
 pub mod Sets
+pub mod Splitting
+pub mod Walks
 pub mod Words

@@ -1,8 +1,10 @@
 -- Laws of the numbers in a row of bytes and of the fields in a row of bits.
-use Rattle.std.proofs.Common.{◌≡◌, ℕ, zero, suc, ◌+◌, ◌-◌, ◌*◌, ◌/◌, ◌%◌, ◌^◌, ◌<◌, ◌≤◌, List, length, get_or, sym, refl, ap, ◌∙◌, add-zero, add_assoc, add-suc, mod-lt, mul_assoc, arith, lit<, pow-add}
+use Rattle.std.proofs.Common.{◌≡◌, ℕ, zero, suc, ◌+◌, ◌-◌, ◌*◌, ◌/◌, ◌%◌, ◌^◌, ◌<◌, ◌≤◌, List, length, get_or, take, drop, sym, refl, ap, ◌∙◌, add-zero, add_assoc, add-suc, mod-lt, mul_assoc, arith, lit<, pow-add}
 use native.Mathlib.Nat.{mul-add-div_right, mul-add-mod_self_right}
 use lib.Pow.{high, mod-mod-pow, field as field_of}
 use Rattle.std.proofs.lemmas.Nat.{pow_pos, shr-shr}
+use Rattle.std.specs.List.{slice_range}
+use Rattle.std.proofs.lemmas.List.{get_or-take, get_or-drop}
 use Rattle.source.specs.Bits.{number, field}
 use Rattle.source.specs.Reading.{part}
 
@@ -75,3 +77,17 @@ part_field bs p q n h l =
 pub field_lt : (bs : List ℕ) (p n : ℕ) → field bs p n < 2 ^ n
 unfolding field
 field_lt bs p n = mod-lt _ (pow_pos n)
+
+-- two rows of bytes that agree have the same number
+number_same : (xs bs : List ℕ) (i n : ℕ) → ((k : ℕ) → k < n → get_or xs (0 + k) 0 ≡ get_or bs (i + k) 0) → number xs 0 n ≡ number bs i n
+unfolding number
+number_same xs bs i zero h = refl
+number_same xs bs i (suc n) h = rw (number_same xs bs i n (λ k l. h k (omega arith)), h n (omega arith)) refl
+
+-- the number in a part of a row of bytes
+pub number_part : (xs bs : List ℕ) (i n : ℕ) → xs ≡ slice_range bs i (i + n) → length xs ≡ n → number xs 0 (length xs) ≡ number bs i n
+number_part xs bs i n e l =
+    rw l (number_same xs bs i n (λ k h. rw e (at k h)))
+  where
+    at : (k : ℕ) → k < n → get_or (take (i + n - i) (drop i bs)) (0 + k) 0 ≡ get_or bs (i + k) 0
+    at k h = let z : 0 + k ≡ k = omega arith in rw z (get_or-take (i + n - i) (drop i bs) k 0 (omega arith) ∙ get_or-drop i bs k 0)

@@ -1,8 +1,10 @@
 -- The parts of the reader against what stands in the file.
-use Rattle.std.proofs.Common.{◌≡◌, ℕ, ◌+◌, ◌-◌, ◌*◌, ◌/◌, ◌<◌, ◌≤◌, min, true, false, cond, not, ◌&&◌, ◌||◌, eqb, ltb, leb, List, map, length, get_or, set, replicate, Some, None, Ok, Err, Option, Result, sym, refl, ap, ◌∙◌, inl, inr, arith, length-set, get_or-set_other, get_or-set_same}
-use Rattle.std.specs.List.{range_with_len}
+use Rattle.std.proofs.Common.{◌≡◌, ℕ, ◌+◌, ◌-◌, ◌*◌, ◌/◌, ◌<◌, ◌≤◌, min, Bool, true, false, cond, not, ◌&&◌, ◌||◌, eqb, ltb, leb, ◌==◌, List, [], ◌∷◌, ◌++◌, map, length, get_or, drop, set, replicate, Some, None, Ok, Err, Option, Result, sym, refl, ap, ◌∙◌, inl, inr, arith, length-append, length-drop, length-set, get_or-set_other, get_or-set_same}
+use Rattle.std.specs.List.{range_with_len, list_all}
+use Rattle.std.specs.Option.{option_map_or}
+use Rattle.std.proofs.Math.Bool.{and-true}
 use Rattle.std.proofs.lemmas.List.FromFn.{get_or-map-range_with_len, length-map-range_with_len}
-use Rattle.std.proofs.lemmas.List.{get_or_past, get_or-replicate}
+use Rattle.std.proofs.lemmas.List.{get_or_past, get_or-replicate, get_or-drop, length-replicate, get_or_append_left, get_or-append_right}
 use Rattle.counting.specs.Counting.{least}
 use Rattle.counting.proofs.Searches.{least_is, least_none}
 use Rattle.std.proofs.lemmas.Bool.{lt-ltb, le-ltb, eq-eqb, ne_eqb, cases_Bool, cases_lt, cases_eq, cond-true, cond-false}
@@ -12,7 +14,9 @@ use Rattle.faults.specs.declared.RowFault.{RowFault}
 use Rattle.faults.specs.declared.RowFault.TheVariants.{Opcode, Unused, Variable, Classes, Target}
 use Rattle.rows.specs.declared.Op.{Op}
 use Rattle.rows.specs.declared.Row.{Row}
-use Rattle.rows.specs.Rows.{shape, op_of, fits}
+use Rattle.rows.specs.declared.Shape.{Shape}
+use Rattle.rows.specs.declared.UnknownOpcode.{UnknownOpcode}
+use Rattle.rows.specs.Rows.{shape, op_of, op_in_source, used, fits}
 use Rattle.source.specs.declared.header.Header.{Header}
 use Rattle.source.specs.Bits.{field}
 use Rattle.source.specs.Reading.{vars_in, count_in, class_in, classes_in, class_of, class_bytes, size_of, fill_in, counts_fault, header_fault, class_fault, part, row_by, row_of, spare, known, row_fault}
@@ -59,16 +63,16 @@ headed_none bs r e q h s f = rw (f, s) (headed_short bs h)
 
 -- ---- a row
 
-pub known_op : (n : ℕ) (o : Op) → Some o ≡ cond (ltb 12 n) None (Some (op_of n)) → (ltb 12 n ≡ false) × (o ≡ op_of n)
+known_op : (n : ℕ) (o : Op) → Ok o ≡ op_in_source n → (ltb 12 n ≡ false) × (o ≡ op_of n)
 known_op n o h = elim (cases_Bool (ltb 12 n)) [
-  | inl e ↦ (let z : Some o ≡ None = h ∙ rw e in absurd (let y : ◌≡◌ {A = ℕ} 0 1 = cc in omega arith))
-  | inr e ↦ (e, (let z : Some o ≡ Some (op_of n) = h ∙ rw e in cc))
+  | inl e ↦ (let z : ◌≡◌ {A = Result Op UnknownOpcode} (Ok o) (Err (record { 0 = n })) = h ∙ rw e in cc)
+  | inr e ↦ (e, (let z : Ok o ≡ Ok (op_of n) = h ∙ rw e in cc))
 ]
 
-pub unknown_op : (n : ℕ) → ◌≡◌ {A = Option Op} None (cond (ltb 12 n) None (Some (op_of n))) → ltb 12 n ≡ true
-unknown_op n h = elim (cases_Bool (ltb 12 n)) [
+unknown_op : (n : ℕ) (f : UnknownOpcode) → Err f ≡ op_in_source n → ltb 12 n ≡ true
+unknown_op n f h = elim (cases_Bool (ltb 12 n)) [
   | inl e ↦ e
-  | inr e ↦ (let z : None ≡ Some (op_of n) = h ∙ rw e in absurd (let y : ◌≡◌ {A = ℕ} 0 1 = cc in omega arith))
+  | inr e ↦ (let z : Err f ≡ Ok (op_of n) = h ∙ rw e in cc)
 ]
 
 -- the tests of a row whose opcode is known
@@ -80,17 +84,31 @@ tests v n class i w r =
     (cond ((shape r.op).target && leb n r.target) (Some (Target i))
     None)))
 
-pub judged_none : (v n : ℕ) (class : ℕ → ℕ) (i w : ℕ) → ltb 12 (part w 0 4) ≡ true → row_fault v n class i w ≡ Some (Opcode i)
+pub judged_none : (v n : ℕ) (class : ℕ → ℕ) (i w m : ℕ) (f : UnknownOpcode) → m ≡ part w 0 4 → Err f ≡ op_in_source m → row_fault v n class i w ≡ Some (Opcode i)
 unfolding row_fault
-judged_none v n class i w h = cond-true _ _ _ h
+judged_none v n class i w m f e h = cond-true _ _ _ (unknown_op (part w 0 4) f (h ∙ ap op_in_source e))
 
-pub judged_by : (v n : ℕ) (class : ℕ → ℕ) (i w : ℕ) (o : Op) (r : Row) → Some o ≡ cond (ltb 12 (part w 0 4)) None (Some (op_of (part w 0 4))) → r ≡ row_by o class w →
+-- the first fault of a row is that of its tests, and the row is that of its word
+pub judged_by : (v n : ℕ) (class : ℕ → ℕ) (i w m : ℕ) (o : Op) (r : Row) → m ≡ part w 0 4 → Ok o ≡ op_in_source m → r ≡ row_by o class w →
     (row_fault v n class i w ≡ tests v n class i w r) × (r ≡ row_of class w)
 unfolding row_fault
-judged_by v n class i w o r h e =
-    let k = known_op (part w 0 4) o h in
-    let f : r ≡ row_of class w = e ∙ ap (λ (x : Op). row_by x class w) k.1 in
+judged_by v n class i w m o r e h b =
+    let k = known_op (part w 0 4) o (h ∙ ap op_in_source e) in
+    let f : r ≡ row_of class w = b ∙ ap (λ (x : Op). row_by x class w) k.1 in
     (cond-false _ _ _ k.0 ∙ ap (tests v n class i w) (sym f), f)
+
+below_used : (b : Bool) (x v : ℕ) → option_map_or (λ y. ltb y v) (used b x) true ≡ (not b || ltb x v)
+below_used true x v = refl
+below_used false x v = refl
+
+-- the variables of a row, one by one
+pub known_all : (v : ℕ) (r : Row) → list_all (λ o. option_map_or (λ y. ltb y v) o true) (used (shape r.op).d r.d ∷ (used (shape r.op).a r.a ∷ (used (shape r.op).b r.b ∷ []))) ≡ known v r
+known_all v r = rw (below_used (shape r.op).d r.d v, below_used (shape r.op).a r.a v, below_used (shape r.op).b r.b v, and-true (not (shape r.op).b || ltb r.b v)) refl
+
+-- the fields of a row, one by one
+pub spare_all : (w last : ℕ) (r : Row) (s : Shape) → s ≡ shape r.op → last ≡ part w 28 4 →
+    list_all (λ (f : Bool × ℕ). f.0 || f.1 == 0) ((s.d, r.d) ∷ ((s.a, r.a) ∷ ((s.b, r.b) ∷ ((s.target, r.target) ∷ ((not s.constant, last) ∷ []))))) ≡ spare w r
+spare_all w last r s e f = rw (e, f, and-true (not (shape r.op).constant || part w 28 4 == 0)) refl
 
 -- ---- classes
 
@@ -116,7 +134,7 @@ pub classes_fill : (bs : List ℕ) → ((k : ℕ) → k < vars_in bs → class_i
 classes_fill bs below ne = classes_good bs below ∙ rw (ne_eqb (fill_in bs) 0 ne)
 
 -- an array of classes, zero past the last variable
-pub class_list : (bs cs : List ℕ) → ((k : ℕ) → k < vars_in bs → get_or cs k 0 ≡ class_in bs k) → ((k : ℕ) → vars_in bs ≤ k → get_or cs k 0 ≡ 0) → (v : ℕ) → get_or cs v 0 ≡ class_of bs v
+class_list : (bs cs : List ℕ) → ((k : ℕ) → k < vars_in bs → get_or cs k 0 ≡ class_in bs k) → ((k : ℕ) → vars_in bs ≤ k → get_or cs k 0 ≡ 0) → (v : ℕ) → get_or cs v 0 ≡ class_of bs v
 unfolding classes_in
 class_list bs cs inside past v =
     elim (cases_lt v (vars_in bs)) [
@@ -128,26 +146,35 @@ class_list bs cs inside past v =
 pub record Classing (bs cs : List ℕ) (v : ℕ) : Type 0 where
   pub same : (k : ℕ) → k < v → get_or cs k 0 ≡ class_in bs k
   pub small : (k : ℕ) → k < v → class_in bs k < 3
-  pub past : (k : ℕ) → v ≤ k → get_or cs k 0 ≡ 0
-  pub size : length cs ≡ 64
+  pub size : length cs ≡ vars_in bs
 
-pub classing_none : (bs : List ℕ) → Classing bs (replicate 64 0) 0
-classing_none bs = record {
-  same = λ k h. absurd (omega arith);
-  small = λ k h. absurd (omega arith);
-  past = λ k h. elim (cases_lt k 64) [ inl l ↦ get_or-replicate {A = ℕ} 64 k 0 0 l | inr l ↦ get_or_past {X = ℕ} (replicate 64 0) k 0 l ];
-  size = refl;
-}
+pub classing_none : (bs cs : List ℕ) → length cs ≡ vars_in bs → Classing bs cs 0
+classing_none bs cs e = record { same = λ k h. absurd (omega arith); small = λ k h. absurd (omega arith); size = e }
 
-pub classing_more : (bs cs : List ℕ) (v c : ℕ) → v < 64 → Classing bs cs v → c ≡ class_in bs v → c < 3 → Classing bs (set cs v c) (v + 1)
+pub classing_more : (bs cs : List ℕ) (v c : ℕ) → v < vars_in bs → Classing bs cs v → c ≡ class_in bs v → c < 3 → Classing bs (set cs v c) (v + 1)
 classing_more bs cs v c room w e lt =
     let inside : v < length cs = omega (arith, w.size) in
     record {
       same = λ k h. elim (cases_eq k v) [ inl f ↦ rw (f, get_or-set_same cs v c 0 inside) e | inr f ↦ rw (get_or-set_other cs v k c 0 f) (w.same k (omega arith)) ];
       small = λ k h. elim (cases_eq k v) [ inl f ↦ rw (f, ← e) lt | inr f ↦ w.small k (omega arith) ];
-      past = λ k h. let f : k ≡ v → ⊥ = λ g. omega arith in rw (get_or-set_other cs v k c 0 f) (w.past k (omega arith));
       size = simp length-set w.size;
     }
+
+-- the classes of a file, with zeros behind them
+pub class_array : (bs cs zs : List ℕ) → Classing bs cs (vars_in bs) → ((k : ℕ) → get_or zs k 0 ≡ 0) → (v : ℕ) → get_or (cs ++ zs) v 0 ≡ class_of bs v
+class_array bs cs zs w z = class_list bs (cs ++ zs)
+    (λ k l. get_or_append_left cs zs 0 k (omega (arith, w.size)) ∙ w.same k l)
+    (λ k l. get_or-append_right cs zs (length cs) k 0 refl (omega (arith, w.size)) ∙ z (k - length cs))
+
+-- what the zeros of an array hold, behind any number of them
+pub zeros_past : (n k : ℕ) → ◌≡◌ {A = ℕ} (get_or (drop n (replicate 64 0)) k 0) 0
+zeros_past n k =
+    let zeros : List ℕ = replicate 64 0 in
+    get_or-drop n zeros k 0 ∙ elim (cases_lt (n + k) 64) [ inl l ↦ get_or-replicate {A = ℕ} 64 (n + k) 0 0 l | inr l ↦ get_or_past zeros (n + k) 0 l ]
+
+-- an array whose first part was written anew
+pub array_size : {X : Type 0} (m n : ℕ) (x : X) (xs : List X) → length xs ≡ n → n ≤ m → length (xs ++ drop n (replicate m x)) ≡ m
+array_size m n x xs e l = simp (length-append, length-drop, length-replicate) (omega arith)
 
 -- a field of the same file at the same place
 pub field_at : (f bs : List ℕ) (p q m n : ℕ) → f ≡ bs → p ≡ q → m ≡ n → field f p m ≡ field bs q n

@@ -1,5 +1,5 @@
 -- The rows of a file, one after another.
-use Rattle.std.proofs.Common.{◌≡◌, ℕ, ◌+◌, ◌-◌, ◌*◌, ◌<◌, ◌≤◌, true, false, List, map, length, get_or, take, set, is_some, Some, None, Ok, Err, Result, ap, ◌∙◌, inl, inr, arith, length-set, get_or-set_other, get_or-set_same}
+use Rattle.std.proofs.Common.{◌≡◌, ℕ, ◌+◌, ◌-◌, ◌*◌, ◌<◌, ◌≤◌, true, false, List, map, length, get_or, take, set, is_some, Some, None, Ok, Err, Result, MatchResult, ap, ◌∙◌, inl, inr, arith, length-set, get_or-set_other, get_or-set_same}
 use mathlib.Core.Path.{fun_ext}
 use Rattle.std.specs.List.{range_with_len}
 use Rattle.std.proofs.lemmas.List.FromFn.{fill_by_all, get_or-map-range_with_len}
@@ -15,18 +15,18 @@ use Rattle.rows.specs.Rows.{shape, end_row, Program}
 use Rattle.source.specs.declared.header.Header.{Header}
 use Rattle.source.specs.declared.program.Source.{Source}
 use Rattle.source.specs.Reading.{vars_in, count_in, class_in, classes_in, class_of, row_place, word_in, row_in, fault_in, row_of, header_fault, class_fault, rows_fault, last_fault, program_in, reading}
-use Rattle.source.specs.Results.{Judged, Heads, RowNext, Rowed, program_by, as_program}
+use Rattle.source.specs.Results.{Judged, Heads, Rowed, program_by, as_program}
 
 -- what the loop over the rows knows after i of them
 pub record Rowing (bs : List ℕ) (rs : List Row) (i : ℕ) : Type 0 where
   pub same : (k : ℕ) → k < i → get_or rs k end_row ≡ row_in bs k
   pub fine : (k : ℕ) → k < i → fault_in bs k ≡ None
-  pub size : length rs ≡ 128
+  pub size : length rs ≡ count_in bs
 
-pub rowing_none : (bs : List ℕ) (rs : List Row) → length rs ≡ 128 → Rowing bs rs 0
+pub rowing_none : (bs : List ℕ) (rs : List Row) → length rs ≡ count_in bs → Rowing bs rs 0
 rowing_none bs rs e = record { same = λ k h. absurd (omega arith); fine = λ k h. absurd (omega arith); size = e }
 
-pub rowing_more : (bs : List ℕ) (rs : List Row) (i : ℕ) (r : Row) → i < 128 → Rowing bs rs i → fault_in bs i ≡ None → r ≡ row_in bs i → Rowing bs (set rs i r) (i + 1)
+pub rowing_more : (bs : List ℕ) (rs : List Row) (i : ℕ) (r : Row) → i < count_in bs → Rowing bs rs i → fault_in bs i ≡ None → r ≡ row_in bs i → Rowing bs (set rs i r) (i + 1)
 rowing_more bs rs i r room w f e =
     let inside : i < length rs = omega (arith, w.size) in
     record {
@@ -52,12 +52,12 @@ pub rowed_err : (bs : List ℕ) (r : Result (List Row) RowFault) (d e : RowFault
 rowed_err bs r d e h s f = rw (f, s) h
 
 -- a row judged by its header and classes is judged by its file
-pub row_next : (bs cs : List ℕ) (h : Header) (i w q : ℕ) (r : Result Row RowFault) → Heads bs h → ((v : ℕ) → get_or cs v 0 ≡ class_of bs v) → w ≡ word_in bs i → q ≡ row_place bs (i + 1) →
-    Judged h.vars h.count (λ v. get_or cs v 0) i w r → RowNext bs i r q
-row_next bs cs h i w q (Ok r) hd same e place (none, is) =
+pub row_judged : (bs cs : List ℕ) (h : Header) (i w : ℕ) (r : Result Row RowFault) → Heads bs h → ((v : ℕ) → get_or cs v 0 ≡ class_of bs v) → w ≡ word_in bs i →
+    Judged h.vars h.count (λ v. get_or cs v 0) i w r → MatchResult r (λ row. (fault_in bs i ≡ None) × (row ≡ row_in bs i)) (λ e. fault_in bs i ≡ Some e)
+row_judged bs cs h i w (Ok r) hd same e (none, is) =
     let f : (λ (v : ℕ). get_or cs v 0) ≡ class_of bs = fun_ext same in
-    (rw (hd.vars, hd.count, f, e) at none, is ∙ ap (λ (g : ℕ → ℕ). row_of g w) f ∙ ap (row_of (class_of bs)) e, place)
-row_next bs cs h i w q (Err d) hd same e place some =
+    (rw (hd.vars, hd.count, f, e) at none, is ∙ ap (λ (g : ℕ → ℕ). row_of g w) f ∙ ap (row_of (class_of bs)) e)
+row_judged bs cs h i w (Err d) hd same e some =
     let f : (λ (v : ℕ). get_or cs v 0) ≡ class_of bs = fun_ext same in
     rw (hd.vars, hd.count, f, e) at some
 

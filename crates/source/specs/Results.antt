@@ -7,8 +7,7 @@ use Rattle.rows.specs.declared.Row.{Row}
 use Rattle.rows.specs.Rows.{Program, end_row}
 use Rattle.source.specs.declared.header.Header.{Header}
 use Rattle.source.specs.declared.program.Source.{Source}
-use Rattle.source.specs.Bits.{field}
-use Rattle.source.specs.Reading.{vars_in, count_in, class_of, class_bytes, counts_fault, header_fault, class_fault, row_of, row_fault, size_of, row_place, row_in, fault_in, rows_fault}
+use Rattle.source.specs.Reading.{vars_in, count_in, class_of, class_bytes, counts_fault, header_fault, class_fault, row_of, row_fault, size_of, row_in, rows_fault}
 
 -- the counts of a header, if they have no fault
 abbrev pub Counted : ℕ → ℕ → ℕ → Result Header BitFault → Type 0
@@ -26,10 +25,10 @@ abbrev pub Headed : List ℕ → Result Header BitFault → ℕ → Type 0
 Headed bs (Ok h) q = (header_fault bs ≡ None) × Heads bs h × (q ≡ 16)
 Headed bs (Err e) q = header_fault bs ≡ Some e
 
--- the class of variable v, at place p, and the place after it
-abbrev pub ClassAt : List ℕ → ℕ → ℕ → Result ℕ BitFault → ℕ → Type 0
-ClassAt bs v p (Ok c) q = (c ≡ field bs p 2) × (c < 3) × (q ≡ p + 2)
-ClassAt bs v p (Err e) q = (field bs p 2 ≡ 3) × (e ≡ Class v)
+-- the class of variable v, by its two bits
+abbrev pub ClassBy : ℕ → ℕ → Result ℕ BitFault → Type 0
+ClassBy v bits (Ok c) = (c ≡ bits) × (c < 3)
+ClassBy v bits (Err e) = (bits ≡ 3) × (e ≡ Class v)
 
 -- the classes of a file, and the place after them and their fill
 abbrev pub Classed : List ℕ → Result (List ℕ) BitFault → ℕ → Type 0
@@ -40,11 +39,6 @@ Classed bs (Err e) q = class_fault bs ≡ Some e
 abbrev pub Judged : ℕ → ℕ → (ℕ → ℕ) → ℕ → ℕ → Result Row RowFault → Type 0
 Judged v n class i w (Ok r) = (row_fault v n class i w ≡ None) × (r ≡ row_of class w)
 Judged v n class i w (Err e) = row_fault v n class i w ≡ Some e
-
--- row i of a file, and the place after it
-abbrev pub RowNext : List ℕ → ℕ → Result Row RowFault → ℕ → Type 0
-RowNext bs i (Ok r) q = (fault_in bs i ≡ None) × (r ≡ row_in bs i) × (q ≡ row_place bs (i + 1))
-RowNext bs i (Err e) q = fault_in bs i ≡ Some e
 
 -- the rows of a file
 abbrev pub Rowed : List ℕ → Result (List Row) RowFault → Type 0

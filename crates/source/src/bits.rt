@@ -33,24 +33,24 @@ impl<'a> BitReader<'a> {
         let n = n.min(32) as usize;
         let end = self.bit + n;
         let window = (end + 7) / 8;
-        if self.file.len() - self.byte < window {
+        let Some(bytes) = self.file.get(self.byte..self.byte + window) else {
             return Err(BitFault::Short);
-        }
-        let value = cut(number(self.file, self.byte, window), 8 * window - end, n);
+        };
+        let value = cut(number(bytes), 8 * window - end, n);
         self.byte += end / 8;
         self.bit = end % 8;
         Ok(value)
     }
 }
 
-// The number in `count` bytes from `first` on.
-fn number(file: &[u8], first: usize, count: usize) -> u64
-    requires { (first + count ≤ length file.now) × (count ≤ 5) }
-    ensures value { result ≡ number_in file.now first count }
+// The number in a few bytes, the first of them the most significant.
+fn number(bytes: &[u8]) -> u64
+    requires { length bytes.now ≤ 5 }
+    ensures { result ≡ number_in bytes.now 0 (length bytes.now) }
 {
-    let mut sum: u64 = 0;
-    for k in 0..count {
-        sum = sum * 256 + file[first + k] as u64;
+    let mut sum = 0;
+    for byte in bytes {
+        sum = sum * 256 + u64::from(*byte);
     }
     sum
 }

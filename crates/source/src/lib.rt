@@ -4,10 +4,12 @@ pub mod bits;
 pub mod header;
 pub mod program;
 
-ghost use Rattle.std.specs.Prelude.{◌≡◌, ℕ, ◌+◌, ◌*◌, ◌^◌, ◌<◌, ◌≤◌, Bool, ◌&&◌, length, if◌then◌else◌, nat_le, slice_index};
+ghost use Rattle.std.specs.Prelude.{◌≡◌, ℕ, ◌+◌, ◌*◌, ◌^◌, ◌<◌, ◌≤◌, Bool, ◌&&◌, length, nat_le, nat_lt, ◌||◌, ◌==◌, true, slice_index};
+ghost use Rattle.std.specs.List.{list_all};
+ghost use Rattle.std.specs.Option.{option_map_or};
 ghost use Rattle.rows.specs.Rows.{fits, shape};
-ghost use Rattle.source.specs.Reading.{part as part_of, row_by, row_of, spare as spare_of, known as known_of, class_bytes, vars_in, class_of, row_place, reading};
-ghost use Rattle.source.specs.Results.{Counted, Headed, ClassAt, Classed, Judged, Heads, RowNext, Rowed, as_program};
+ghost use Rattle.source.specs.Reading.{part as part_of, row_by, spare as spare_of, known as known_of, class_bytes, vars_in, class_of, row_place, reading};
+ghost use Rattle.source.specs.Results.{Counted, Headed, ClassBy, Classed, Heads, Rowed, as_program};
 
 use bits::{BitReader, cut};
 use faults::{BitFault, RowFault};
@@ -60,8 +62,8 @@ fn read_classes(reader: &mut BitReader, vars: usize) -> Result<[u8; 64], BitFaul
     ensures classed { Classed reader.old.file.now result (8 * reader.new.byte + reader.new.bit) }
 {
     let mut classes = [0; 64];
-    for v in 0..vars {
-        classes[v] = next_class(reader, v)?;
+    for (v, class) in classes[..vars].iter_mut().enumerate() {
+        *class = checked_class(v, reader.take(2)?)?;
     }
     let spare = 8 * ((2 * vars + 7) / 8) - 2 * vars;
     if reader.take(spare as u32)? != 0 {
@@ -70,51 +72,130 @@ fn read_classes(reader: &mut BitReader, vars: usize) -> Result<[u8; 64], BitFaul
     Ok(classes)
 }
 
-fn next_class(reader: &mut BitReader, v: usize) -> Result<u8, BitFault>
-    requires few { v < 64 }
-    requires room { 8 * reader.old.byte + reader.old.bit + 2 ≤ 8 * length reader.old.file.now }
-    ensures whole { reader.new.file.now ≡ reader.old.file.now }
-    ensures class { ClassAt reader.old.file.now v (8 * reader.old.byte + reader.old.bit) result (8 * reader.new.byte + reader.new.bit) }
+// The class of variable v by its two bits.
+fn checked_class(v: usize, bits: u32) -> Result<u8, BitFault>
+    requires { (v < 64) × (bits < 4) }
+    ensures { ClassBy v bits result }
 {
-    let class = reader.take(2)?;
-    if class >= 3 {
+    if bits >= 3 {
         return Err(BitFault::Class(v as u16));
     }
-    Ok(class as u8)
+    Ok(bits as u8)
 }
 
-// n bits of a word from place `at` on, if they are in use, else 0.
-fn part(used: bool, word: u32, at: usize, n: usize) -> u16
+// n bits of a word from place `at` on.
+fn part(word: u32, at: usize, n: usize) -> u16
     requires { (at + n ≤ 32) × (n ≤ 16) }
-    ensures value { result ≡ (if used then part_of word at n else 0) }
+    ensures value { result ≡ part_of word at n }
     ensures small { result < 2 ^ n }
 {
-    if used {
-        cut(word as u64, 32 - (at + n), n) as u16
-    } else {
-        0
+    cut(word as u64, 32 - (at + n), n) as u16
+}
+
+// What stands before the rows of a file: by its counts and its classes they are judged.
+#[derive(Clone, Copy)]
+struct Preface {
+    head: Header,
+    classes: [u8; 64],
+}
+
+impl Preface {
+    ghost use Rattle.source.specs.Results.{Judged};
+
+    // The class of a variable; a number of 64 or more has class 0.
+    fn class_of(&self, v: u16) -> u8
+        ensures { result ≡ slice_index self.now.classes v }
+    {
+        self.classes.get(v as usize).copied().unwrap_or(0)
+    }
+
+    // The row in a word, whose opcode is known.
+    fn row_by(&self, op: Op, word: u32) -> Row
+        ensures { result ≡ row_by op (λ v. slice_index self.now.classes v) word }
+    {
+        let row = bare_row(op, word);
+        Row {
+            dclass: row.written().map_or(0, |d| self.class_of(d)),
+            aclass: row.first_read().map_or(0, |a| self.class_of(a)),
+            ..row
+        }
+    }
+
+    // Whether the variables that a row uses are those of the program.
+    fn knows(&self, row: Row) -> bool
+        ensures { result ≡ known_of self.now.head.vars row }
+    {
+        all_below(
+            &[row.written(), row.first_read(), row.second_read()],
+            self.head.vars,
+        )
+    }
+
+    // Whether the classes of a row's variables suit its opcode.
+    fn suits(&self, row: Row) -> bool
+        ensures { result ≡ fits row.op (slice_index self.now.classes row.d) (slice_index self.now.classes row.a) (slice_index self.now.classes row.b) }
+    {
+        row.op.fits(
+            self.class_of(row.d),
+            self.class_of(row.a),
+            self.class_of(row.b),
+        )
+    }
+
+    // Whether the target of a row lies past the last row.
+    fn leads_out(&self, row: Row) -> bool
+        ensures { result ≡ ((shape row.op).target && nat_le self.now.head.count row.target) }
+    {
+        row.target_row()
+            .is_some_and(|target| target as usize >= self.head.count)
+    }
+
+    // The row in a word, or its first fault.
+    fn judge(&self, i: u16, word: u32) -> Result<Row, RowFault>
+        ensures { Judged self.now.head.vars self.now.head.count (λ v. slice_index self.now.classes v) i word result }
+    {
+        let Ok(op) = Op::try_from(part(word, 0, 4)) else {
+            return Err(RowFault::Opcode(i));
+        };
+        let row = self.row_by(op, word);
+        if !spare(word, row) {
+            return Err(RowFault::Unused(i));
+        }
+        if !self.knows(row) {
+            return Err(RowFault::Variable(i));
+        }
+        if !self.suits(row) {
+            return Err(RowFault::Classes(i));
+        }
+        if self.leads_out(row) {
+            return Err(RowFault::Target(i));
+        }
+        Ok(row)
     }
 }
 
-// The row in a word, whose opcode is known.
-fn row_by(op: Op, word: u32, classes: &[u8; 64]) -> Row
-    ensures { result ≡ row_by op (λ v. slice_index classes.now v) word }
+// The fields of the row in a word, whose opcode is known: const has a constant where others have a, b and target.
+fn bare_row(op: Op, word: u32) -> Row
+    ensures { result ≡ row_by op (λ v. 0) word }
 {
-    let shape = op.shape();
-    let short = !shape.constant;
-    let d = part(true, word, 6, 6);
-    let a = part(short, word, 12, 6);
-    Row {
+    let row = Row {
         op,
-        weight: part(true, word, 4, 2) as u8,
-        dclass: if shape.d { classes[d as usize] } else { 0 },
-        aclass: if shape.a { classes[a as usize] } else { 0 },
-        d,
-        a,
-        b: part(short, word, 18, 6),
-        target: part(short, word, 24, 8),
-        constant: part(shape.constant, word, 12, 16),
-        slot: 0,
+        weight: part(word, 4, 2) as u8,
+        d: part(word, 6, 6),
+        ..Row::END
+    };
+    if op.shape().constant {
+        Row {
+            constant: part(word, 12, 16),
+            ..row
+        }
+    } else {
+        Row {
+            a: part(word, 12, 6),
+            b: part(word, 18, 6),
+            target: part(word, 24, 8),
+            ..row
+        }
     }
 }
 
@@ -123,99 +204,39 @@ fn spare(word: u32, row: Row) -> bool
     ensures { result ≡ spare_of word row }
 {
     let shape = row.op.shape();
-    (shape.d || row.d == 0)
-        && (shape.a || row.a == 0)
-        && (shape.b || row.b == 0)
-        && (shape.target || row.target == 0)
-        && (!shape.constant || part(true, word, 28, 4) == 0)
+    all_zero(&[
+        (shape.d, row.d),
+        (shape.a, row.a),
+        (shape.b, row.b),
+        (shape.target, row.target),
+        (!shape.constant, part(word, 28, 4)),
+    ])
 }
 
-// Whether the variables that a row uses are below `vars`.
-fn known(row: Row, vars: usize) -> bool
-    ensures { result ≡ known_of vars row }
+// Whether each field that is not in use is zero.
+fn all_zero(fields: &[(bool, u16)]) -> bool
+    ensures { result ≡ list_all (λ f. f.0 || f.1 == 0) fields.now }
 {
-    let shape = row.op.shape();
-    (!shape.d || (row.d as usize) < vars)
-        && (!shape.a || (row.a as usize) < vars)
-        && (!shape.b || (row.b as usize) < vars)
+    fields.iter().all(|&(used, value)| used || value == 0)
 }
 
-// The row in a word, or its first fault.
-fn judge(head: Header, classes: &[u8; 64], i: u16, word: u32) -> Result<Row, RowFault>
-    ensures { Judged head.vars head.count (λ v. slice_index classes.now v) i word result }
+// Whether each variable in use is below `vars`.
+fn all_below(used: &[Option<u16>], vars: usize) -> bool
+    ensures { result ≡ list_all (λ o. option_map_or (λ v. nat_lt v vars) o true) used.now }
 {
-    let Some(op) = Op::in_source(part(true, word, 0, 4)) else {
-        return Err(RowFault::Opcode(i));
-    };
-    let row = row_by(op, word, classes);
-    if !spare(word, row) {
-        return Err(RowFault::Unused(i));
-    }
-    if !known(row, head.vars) {
-        return Err(RowFault::Variable(i));
-    }
-    if !suits(row, classes) {
-        return Err(RowFault::Classes(i));
-    }
-    if leads_out(row, head.count) {
-        return Err(RowFault::Target(i));
-    }
-    Ok(row)
+    used.iter().all(|v| v.map_or(true, |v| (v as usize) < vars))
 }
 
-// Whether the target of a row lies past the last row.
-fn leads_out(row: Row, count: usize) -> bool
-    ensures { result ≡ ((shape row.op).target && nat_le count row.target) }
-{
-    row.op.shape().target && row.target as usize >= count
-}
-
-// Whether the classes of a row's variables suit its opcode; a number of 64 or more has class 0.
-fn suits(row: Row, classes: &[u8; 64]) -> bool
-    ensures { result ≡ fits row.op (slice_index classes.now row.d) (slice_index classes.now row.a) (slice_index classes.now row.b) }
-{
-    row.op.fits(
-        class_of(classes, row.d),
-        class_of(classes, row.a),
-        class_of(classes, row.b),
-    )
-}
-
-fn class_of(classes: &[u8; 64], v: u16) -> u8
-    ensures { result ≡ slice_index classes.now v }
-{
-    if v < 64 { classes[v as usize] } else { 0 }
-}
-
-fn next_row(
-    reader: &mut BitReader,
-    head: Header,
-    classes: &[u8; 64],
-    i: usize,
-) -> Result<Row, RowFault>
-    requires heads { Heads reader.old.file.now head }
-    requires classed { (v : ℕ) → slice_index classes.now v ≡ class_of reader.old.file.now v }
-    requires row { (i < head.count) × (8 * reader.old.byte + reader.old.bit ≡ row_place reader.old.file.now i) }
-    ensures whole { reader.new.file.now ≡ reader.old.file.now }
-    ensures row { RowNext reader.old.file.now i result (8 * reader.new.byte + reader.new.bit) }
-{
-    let word = reader.take(32)?;
-    judge(head, classes, i as u16, word)
-}
-
-fn read_rows(
-    reader: &mut BitReader,
-    head: Header,
-    classes: &[u8; 64],
-) -> Result<[Row; 128], RowFault>
-    requires heads { Heads reader.old.file.now head }
-    requires classed { (v : ℕ) → slice_index classes.now v ≡ class_of reader.old.file.now v }
+// The rows behind the preface of a file.
+fn read_rows(reader: &mut BitReader, preface: &Preface) -> Result<[Row; 128], RowFault>
+    requires heads { Heads reader.old.file.now preface.now.head }
+    requires classed { (v : ℕ) → slice_index preface.now.classes v ≡ class_of reader.old.file.now v }
     requires first { 8 * reader.old.byte + reader.old.bit ≡ row_place reader.old.file.now 0 }
     ensures { Rowed reader.old.file.now result }
 {
     let mut rows = [Row::END; 128];
-    for i in 0..head.count {
-        rows[i] = next_row(reader, head, classes, i)?;
+    for (i, row) in rows[..preface.head.count].iter_mut().enumerate() {
+        *row = preface.judge(i as u16, reader.take(32)?)?;
     }
     Ok(rows)
 }
@@ -227,7 +248,7 @@ pub fn read(file: &[u8]) -> Result<Source, RowFault>
     let mut reader = BitReader::over(file);
     let head = read_header(&mut reader, file.len())?;
     let classes = read_classes(&mut reader, head.vars)?;
-    let rows = read_rows(&mut reader, head, &classes)?;
+    let rows = read_rows(&mut reader, &Preface { head, classes })?;
     let last = head.count - 1;
     if rows[last].op.shape().falls {
         return Err(RowFault::Last(last as u16));

@@ -1,26 +1,29 @@
-use Rattle.std.proofs.Common.{◌∙◌}
+use Rattle.std.proofs.Common.{refl, ◌∙◌}
 use Rattle.source.specs.Results.{program_of}
-use Rattle.admission.proofs.Judging.{fault_lost, fault_raw, fault_none, part_rows}
+use Rattle.admission.proofs.Judging.{fault_lost, fault_raw, fault_none}
 use Rattle.admission.proofs.fact_fault.Goals as goal
 
-pub returns-then-lost-rows : goal.returns-then-lost-rows
-returns-then-lost-rows c =
-    record { fault = fault_lost (program_of c.args.source.now) _ _ (part_rows c.args.source.now.count c.args.source.now.rows) c.first_unreached-lost.ensures.row c.if-lost-rows.true; past = c.first_unreached-lost.ensures.past }
+pub returns-in-Some : goal.returns-in-Some
+returns-in-Some c =
+    let s = c.args.source.now in
+    record { fault = fault_lost (program_of s) _ c.in-Some.lost refl c.in-Some.ensures.row; past = c.in-Some.ensures.past }
 
-pub returns-then-raw-rows : goal.returns-then-raw-rows
-returns-then-raw-rows c =
-    let a = c.first_unreached-lost.ensures.past in
-    let b = c.first_unsure-raw.ensures.past in
+pub returns-in-Some-first_unsure : goal.returns-in-Some-first_unsure
+returns-in-Some-first_unsure c =
+    let s = c.args.source.now in
+    let a = c.in_default.ensures.past in
+    let b = c.in-Some-first_unsure.ensures.past in
     record {
-      fault = fault_raw (program_of c.args.source.now) _ _ _ (part_rows c.args.source.now.count c.args.source.now.rows) c.first_unreached-lost.ensures.row c.if-lost-rows.false c.first_unsure-raw.ensures.row c.if-raw-rows.true;
+      fault = fault_raw (program_of s) _ c.in-Some-first_unsure.raw refl c.in_default.ensures.row c.in-Some-first_unsure.ensures.row;
       past = (b.0 ∙ a.0, b.1 ∙ a.1);
     }
 
 pub returns : goal.returns
 returns c =
-    let a = c.first_unreached-lost.ensures.past in
-    let b = c.first_unsure-raw.ensures.past in
+    let s = c.args.source.now in
+    let a = c.in_default.ensures.past in
+    let b = c.in_default-first_unsure.ensures.past in
     record {
-      fault = fault_none (program_of c.args.source.now) _ _ _ (part_rows c.args.source.now.count c.args.source.now.rows) c.first_unreached-lost.ensures.row c.if-lost-rows.false c.first_unsure-raw.ensures.row c.if-raw-rows.false;
+      fault = fault_none (program_of s) _ refl c.in_default.ensures.row c.in_default-first_unsure.ensures.row;
       past = (b.0 ∙ a.0, b.1 ∙ a.1);
     }

@@ -1,17 +1,10 @@
-use Rattle.std.proofs.Common.{◌≡◌, ◌-◌, ◌<◌, true}
-use Rattle.sets.specs.Sets.{has}
-use Rattle.sets.specs.Words.{members, sets_of}
+use Rattle.std.proofs.Common.{◌≡◌}
+use Rattle.sets.specs.Rising.{rising}
+use Rattle.sets.specs.Walks.{left_of}
 use Rattle.facts.specs.Flow.{at, gather}
-use Rattle.facts.specs.Solving.{passing}
 use Rattle.facts.proofs.from_set.Given as goal
 
 abbrev pub invariant-loop-j : goal.invariant-loop-j
 invariant-loop-j g l =
     let f = g.K.FactKind.flow l.kind in
-    let t = has (members l.set) in
-    (gather f.join (at f (sets_of l.facts)) (members l.all) (passing t (448 - l.j) l.j)
-    ≡ gather f.join (at f (sets_of l.facts)) (members l.initial.all) (passing t 448 0))
-    × (l.j < 448 → t l.j ≡ true)
-
-abbrev pub decreases-loop-j : goal.decreases-loop-j
-decreases-loop-j g l = 448 - l.j
+    gather f.join (at f l.facts) l.all (left_of l.j-iterator) ≡ gather f.join (at f l.facts) l.initial.all (rising l.fn.set)

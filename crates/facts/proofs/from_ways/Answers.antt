@@ -1,27 +1,18 @@
-use Rattle.std.proofs.Common.{◌≡◌, ℕ, ◌+◌, ◌<◌, ◌≤◌, [], length, get_or, drop, sym, ap, ◌∙◌, arith}
-use Rattle.std.proofs.lemmas.List.{drop_all}
-use Rattle.sets.specs.Words.{members, sets_of}
+use Rattle.std.proofs.Common.{ℕ, [], get_or, sym, ap, ◌∙◌}
+use Rattle.rows.specs.Rows.{rows_left}
 use Rattle.facts.specs.Flow.{at, gather}
-use Rattle.facts.proofs.Walking.{gather_more}
+use Rattle.facts.proofs.Walking.{gather_next, gather_last}
 use Rattle.facts.proofs.from_ways.Goals as goal
 
-pub loop-k-preserved : goal.loop-k-preserved
-loop-k-preserved g c =
+pub loop-j-preserved : goal.loop-j-preserved
+loop-j-preserved g c =
     let f = g.K.FactKind.flow c.args.kind.now in
-    let js = get_or f.next c.args.i [] in
-    let k = c.loop-k.k in
-    let kept = at f (sets_of c.args.facts.now) in
-    let x : members c.join-all.result ≡ f.join (members c.loop-k.all) (kept (get_or js k 0)) =
-    c.join-all.ensures ∙ ap (f.join (members c.loop-k.all)) (c.fact_at-handed.ensures ∙ ap kept c.way-j.ensures) in
-    let lt : k < length js = omega arith in
-    ap (λ (y : ℕ). gather f.join kept y (drop (k + 1) js)) x ∙ sym (gather_more f.join kept (members c.loop-k.all) js k lt) ∙ c.loop-k.invariant
+    let x = c.join-all.ensures ∙ ap (f.join c.loop-j.all) c.fact_at-handed.ensures in
+    gather_next f.join (at f c.args.facts.now) c.loop-j.all c.join-all.result c.in-Some.j (rows_left c.loop-j.j-iterator) (rows_left c.next.new.self) c.in-Some.ensures.steps x ∙ c.loop-j.invariant
 
 pub returns : goal.returns
-unfolding gather
 returns g c =
     let f = g.K.FactKind.flow c.args.kind.now in
-    let js = get_or f.next c.args.i [] in
-    let k = c.loop-k.k in
-    let kept = at f (sets_of c.args.facts.now) in
-    let le : length js ≤ k = omega arith in
-    ap (gather f.join kept (members c.loop-k.all)) (sym (drop_all k js le)) ∙ c.loop-k.invariant ∙ ap (λ (y : ℕ). gather f.join kept y js) c.entering-all.ensures
+    let kept = at f c.args.facts.now in
+    sym (gather_last f.join kept c.loop-j.all (rows_left c.loop-j.j-iterator) c.in-None.ensures.steps.0) ∙ c.loop-j.invariant
+    ∙ ap (λ (y : ℕ). gather f.join kept y (get_or f.next c.args.i [])) c.entering-all.ensures

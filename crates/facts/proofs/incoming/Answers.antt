@@ -1,9 +1,7 @@
-use Rattle.std.proofs.Common.{◌≡◌, ℕ, min, List, [], length, get_or, take, sym, ap, ◌∙◌}
-use Rattle.sets.specs.declared.NodeSet.{NodeSet}
-use Rattle.sets.specs.Sets.{has}
-use Rattle.sets.specs.Words.{members, sets_of}
+use Rattle.std.proofs.Common.{◌≡◌, ℕ, min, List, [], length, get_or, take, sym, ap, ◌∙◌, rules}
+use Rattle.sets.specs.Rising.{rising}
+use Rattle.sets.specs.Words.{joined}
 use Rattle.facts.specs.Flow.{rows, at, enters, gather}
-use Rattle.facts.specs.Solving.{passing}
 use Rattle.facts.proofs.Memory.{take_short, incoming_backward, incoming_told}
 use Rattle.facts.proofs.incoming.Goals as goal
 
@@ -14,10 +12,11 @@ returns-then-backward g c = λ told.
     let i = c.args.i in
     let held : take c.min.result facts ≡ take (rows f) facts =
     ap (λ (m : ℕ). take m facts) (c.min.ensures ∙ ap (λ (n : ℕ). min n (length facts)) c.rows-n.ensures) ∙ take_short (rows f) facts in
-    c.from_ways.ensures ∙ ap (λ (xs : List NodeSet). gather f.join (at f (sets_of xs)) (enters f i) (get_or f.next i [])) held
-    ∙ incoming_backward f (at f (sets_of (take (rows f) facts))) i (sym c.if-backward.ensures)
+    c.from_ways.ensures ∙ ap (λ (xs : List ℕ). gather f.join (at f xs) (enters f i) (get_or f.next i [])) held
+    ∙ incoming_backward f (at f ((take (rows f) facts))) i (sym c.if-backward.ensures)
 
 pub returns : goal.returns
+unfolding joined
 returns g c = λ told.
     let f = g.K.FactKind.flow c.args.kind.now in
     let facts = c.args.facts.now in
@@ -27,7 +26,7 @@ returns g c = λ told.
     ap (λ (m : ℕ). take m facts) (c.min.ensures ∙ ap (λ (n : ℕ). min n (length facts)) c.rows-n.ensures) ∙ take_short (rows f) facts in
     let listed : take c.min-2.result comers ≡ take (rows f) comers =
     ap (λ (m : ℕ). take m comers) (c.min-2.ensures ∙ ap (λ (n : ℕ). min n (length comers)) c.rows-n.ensures) ∙ take_short (rows f) comers in
-    let set : members c.set_at-set.result ≡ get_or (sets_of (take (rows f) comers)) i 0 = c.set_at-set.ensures ∙ ap (λ (xs : List NodeSet). get_or (sets_of xs) i 0) listed in
-    let kept = at f (sets_of (take (rows f) facts)) in
-    c.from_set.ensures ∙ ap (λ (xs : List NodeSet). gather f.join (at f (sets_of xs)) (enters f i) (passing (has (members c.set_at-set.result)) 448 0)) held
-    ∙ ap (λ (x : ℕ). gather f.join kept (enters f i) (passing (has x) 448 0)) set ∙ incoming_told f kept comers i (sym c.if-backward.ensures) told
+    let set : c.unwrap_or-set.result ≡ get_or ((take (rows f) comers)) i 0 = (let e : c.unwrap_or-set.result ≡ get_or (take c.min-2.result comers) i 0 = search rules in e ∙ ap (λ (xs : List ℕ). get_or xs i 0) listed) in
+    let kept = at f ((take (rows f) facts)) in
+    c.from_set.ensures ∙ ap (λ (xs : List ℕ). gather f.join (at f xs) (enters f i) (rising c.unwrap_or-set.result)) held
+    ∙ ap (λ (x : ℕ). gather f.join kept (enters f i) (rising x)) set ∙ incoming_told f kept comers i (sym c.if-backward.ensures) told

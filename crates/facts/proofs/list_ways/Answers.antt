@@ -1,20 +1,21 @@
-use Rattle.std.proofs.Common.{◌<◌, ◌≤◌, [], length, get_or, arith}
-use Rattle.std.proofs.lemmas.List.{take_all}
+use Rattle.std.proofs.Common.{List, ℕ, [], ◌∷◌, ◌++◌, sym, ap, ◌∙◌, append_assoc, append-nil, arith}
+use Rattle.rows.specs.Rows.{rows_left}
 use Rattle.facts.proofs.Memory.{listing_none, listing_more}
 use Rattle.facts.proofs.list_ways.Goals as goal
 
-pub loop-k-init : goal.loop-k-init
-loop-k-init g c = listing_none c.args.sets.now c.args.j
+pub loop-i-init : goal.loop-i-init
+loop-i-init g c = (listing_none c.args.sets.now c.args.j, ap rows_left c.into_iter-i-iterator.ensures.into_iter_gives ∙ c.ways-i-items.ensures)
 
-pub loop-k-preserved : goal.loop-k-preserved
-loop-k-preserved g c =
-    let ws = get_or (g.K.FactKind.flow c.args.kind.now).next c.args.j [] in
-    let lt : c.loop-k.k < length ws = omega arith in
-    listing_more c.args.sets.now c.loop-k.sets c.list_one.new.sets c.args.j ws c.loop-k.k lt (omega arith) c.loop-k.invariant
-    (rw c.way-i.ensures at c.list_one.ensures)
+pub loop-i-preserved : goal.loop-i-preserved
+loop-i-preserved g c =
+    let done = c.loop-i.yielded in
+    let i = c.in-Some.i in (
+      listing_more c.args.sets.now c.loop-i.sets c.list_one.new.sets c.args.j done i (omega arith) c.loop-i.invariant.0 c.list_one.ensures,
+      append_assoc done (i ∷ []) (rows_left c.next.new.self) ∙ ap (λ (xs : List ℕ). done ++ xs) (sym c.in-Some.ensures.steps) ∙ c.loop-i.invariant.1,
+    )
 
 pub returns : goal.returns
 returns g c =
-    let ws = get_or (g.K.FactKind.flow c.args.kind.now).next c.args.j [] in
-    let le : length ws ≤ c.loop-k.k = omega arith in
-    rw (take_all c.loop-k.k ws le) at c.loop-k.invariant
+    let done = c.loop-i.yielded in
+    let e = sym (append-nil done) ∙ ap (λ (xs : List ℕ). done ++ xs) (sym c.in-None.ensures.steps.0) ∙ c.loop-i.invariant.1 in
+    rw e at c.loop-i.invariant.0

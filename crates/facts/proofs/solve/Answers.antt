@@ -1,6 +1,5 @@
 use Rattle.std.proofs.Common.{◌≡◌, ℕ, List, ◌++◌, length, take, drop, sym, ap, ◌∙◌, subst}
-use Rattle.std.proofs.lemmas.List.{take_at, drop_at, length-map}
-use Rattle.sets.specs.Words.{members, sets_of}
+use Rattle.std.proofs.lemmas.List.{take_at, drop_at}
 use Rattle.facts.specs.Flow.{rows, at, solved, Least}
 use Rattle.facts.proofs.Sweeping.{solved_length, solved_least}
 use Rattle.facts.proofs.solve.Goals as goal
@@ -12,8 +11,8 @@ returns g c =
     let facts = c.args.facts.now in
     let part = c.settle.new.facts in
     let rest = drop c.rows-n.result facts in
-    let long : length part ≡ rows f = sym (length-map part members) ∙ ap length c.settle.ensures ∙ solved_length f in
-    let is : sets_of (take (rows f) (part ++ rest)) ≡ solved f = ap sets_of (take_at part rest (rows f) long) ∙ c.settle.ensures in
+    let long : length part ≡ rows f = ap length c.settle.ensures ∙ solved_length f in
+    let is : (take (rows f) (part ++ rest)) ≡ solved f = (take_at part rest (rows f) long) ∙ c.settle.ensures in
     record {
       room = c.if-not-memory_suffices.ensures;
       answer = record {

@@ -1,5 +1,4 @@
 use Rattle.std.proofs.Common.{◌<◌, ◌≤◌, false, length, ◌∙◌, arith}
-use Rattle.sets.specs.Words.{sets_of}
 use Rattle.facts.specs.Flow.{rows, feeders, turns, sweep}
 use Rattle.facts.proofs.Sweeping.{turns_length, turn_below, sweep_more, sweep_end}
 use Rattle.facts.proofs.sweep.Goals as goal
@@ -14,13 +13,13 @@ pub loop-k-preserved : goal.loop-k-preserved
 loop-k-preserved g c =
     let f = g.K.FactKind.flow c.args.kind.now in
     let lt : c.loop-k.k < length (turns f) = omega (arith, c.requires.rows, turns_length f) in
-    sweep_more f (feeders f) (turns f) (sets_of c.loop-k.facts) (sets_of c.visit-fresh.new.facts) c.loop-k.altered c.visit-fresh.result c.loop-k.k c.turn-i.result
+    sweep_more f (feeders f) (turns f) c.loop-k.facts c.visit-fresh.new.facts c.loop-k.altered c.visit-fresh.result c.loop-k.k c.turn-i.result
     lt c.turn-i.ensures c.visit-fresh.ensures.yielded c.visit-fresh.ensures.fresh ∙ c.loop-k.invariant
 
 pub returns : goal.returns
 returns g c =
     let f = g.K.FactKind.flow c.args.kind.now in
     let le : length (turns f) ≤ c.loop-k.k = omega (arith, c.requires.rows, turns_length f) in
-    let (kept, altered) = sweep_end f (feeders f) (turns f) (sets_of c.loop-k.facts) c.loop-k.altered c.loop-k.k
-    (sweep f (feeders f) (turns f) (sets_of c.args.facts.now) false) le c.loop-k.invariant in
+    let (kept, altered) = sweep_end f (feeders f) (turns f) c.loop-k.facts c.loop-k.altered c.loop-k.k
+    (sweep f (feeders f) (turns f) c.args.facts.now false) le c.loop-k.invariant in
     record { visited = kept; fresh = altered }

@@ -1,6 +1,5 @@
 use Rattle.std.proofs.Common.{◌-◌, length, arith}
 use Rattle.std.proofs.lemmas.Bool.{true≢false}
-use Rattle.sets.specs.Words.{members}
 use Rattle.interference.proofs.Later.{later_none, later_all, neighbours_none, neighbours_row, live_after_lem}
 use Rattle.interference.proofs.build.Goals as goal
 
@@ -14,7 +13,7 @@ pub loop-i-preserved : goal.loop-i-preserved
 loop-i-preserved c =
     let rows = c.args.lines.rows.now in
     let i = c.loop-i.i in
-    let live = live_after_lem rows c.args.live.now (i - 1) (members c.incoming-after.result) c.requires (c.incoming-after.ensures (λ e. absurd (true≢false e))) in (
+    let live = live_after_lem rows c.args.live.now (i - 1) (c.incoming-after.result) c.requires (c.incoming-after.ensures (λ e. absurd (true≢false e))) in (
       neighbours_row (λ r. r.others) rows i (i - 1) _ c.loop-i.edges c.connect.new.edges (omega arith) (omega arith) live c.connect.ensures.edges c.loop-i.invariant.0,
       neighbours_row (λ r. r.hard) rows i (i - 1) _ c.loop-i.hard c.connect.new.hard (omega arith) (omega arith) live c.connect.ensures.hard c.loop-i.invariant.1,
     )

@@ -1,10 +1,8 @@
 use Rattle.std.proofs.Common.{Bool, ap, ◌∙◌}
 use Rattle.sets.specs.Sets.{when}
-use Rattle.sets.specs.Words.{members}
 use Rattle.rows.specs.Rows.{reads, set_of}
-use Rattle.rows.proofs.Fields.{members_empty}
 use Rattle.interference.proofs.copied.Goals as goal
 
 pub returns-else-copies : goal.returns-else-copies
 returns-else-copies c =
-    ap members c.empty.ensures ∙ members_empty ∙ ap (λ (b : Bool). when b (set_of (reads c.args.row))) c.if-copies.ensures
+    c.empty.ensures ∙ ap (λ (b : Bool). when b (set_of (reads c.args.row))) c.if-copies.ensures

@@ -1,13 +1,11 @@
-use Rattle.std.proofs.Common.{◌≡◌, ℕ, ap, ◌∙◌, add-one, arith}
-use Rattle.sets.specs.Words.{cleared, empty_set}
-use Rattle.sets.proofs.Words.{cleared_more}
+use Rattle.std.proofs.Common.{◌≡◌, ℕ, List, ◌++◌, drop, take, replicate, length, ap, ◌∙◌, length-take-le, arith, rules}
+use Rattle.sets.specs.Words.{joined, cleared}
 use Rattle.sets.proofs.clear.Goals as goal
 
-pub loop-i-preserved : goal.loop-i-preserved
-loop-i-preserved c =
-    rw (add-one, c.loop-i.invariant) (cleared_more empty_set c.args.sets.now c.loop-i.i (omega arith))
-
 pub returns : goal.returns
+unfolding joined
 returns c =
-    let e : c.loop-i.i ≡ c.min-i-end.result = omega arith in
-    c.loop-i.invariant ∙ ap (λ (n : ℕ). cleared n c.args.sets.now) (e ∙ c.min-i-end.ensures)
+    let ss = c.args.sets.now in
+    let m = c.min-n.result in
+    let long : length (take m ss) ≡ m = length-take-le m ss (omega arith) in
+    ap (λ (xs : List ℕ). xs ++ drop m ss) (c.fill.ensures.after (search rules) ∙ ap (λ (k : ℕ). replicate k 0) long) ∙ ap (λ (k : ℕ). cleared k ss) c.min-n.ensures

@@ -7,4 +7,4 @@ abbrev pub invariant-loop-i : goal.invariant-loop-i
 invariant-loop-i l =
     (l.reader.file.now ≡ l.initial.reader.file.now)
     × (8 * l.reader.byte + l.reader.bit ≡ row_place l.initial.reader.file.now l.i)
-    × Rowing l.initial.reader.file.now l.rows l.i
+    × Rowing l.initial.reader.file.now l.row-items l.i

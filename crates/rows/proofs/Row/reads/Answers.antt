@@ -1,5 +1,6 @@
+use Rattle.std.proofs.Common.{◌∙◌}
 use Rattle.rows.proofs.Fields.{read}
 use Rattle.rows.proofs.Row.reads.Goals as goal
 
 pub returns : goal.returns
-returns c = read c.args.self _ _ _ _ c.shape-shape.ensures c.empty.ensures c.with_if.ensures c.with_if-2.ensures
+returns c = c.with-2.ensures ∙ rw (c.with.ensures, c.first_read.ensures, c.second_read.ensures) (read c.args.self _ c.empty.ensures)

@@ -1,14 +1,19 @@
-use Rattle.std.proofs.Common.{ℕ, ◌<◌, min, ◌≢◌, length, ap, ◌∙◌, arith, length-set, get_or-set_other, get_or-set_same, below_more}
-use Rattle.sets.specs.Sets.{up_to}
-use Rattle.sets.proofs.Words.{joined_up_to}
+use Rattle.std.proofs.Common.{◌≡◌, ◌-◌, ◌*◌, length, inl, inr, arith}
+use Rattle.std.proofs.lemmas.Bool.{cases_lt}
+use Rattle.std.proofs.lemmas.List.{get_or_past}
+use Rattle.sets.proofs.Words.{joined_up_to, up_to_word}
 use Rattle.sets.proofs.NodeSet.up_to.Goals as goal
 
-pub loop-i-preserved : goal.loop-i-preserved
-loop-i-preserved c = (
-  below_more _ _ (λ k h. let ne : k ≢ c.loop-i.i = omega arith in rw get_or-set_other (c.loop-i.invariant.0 k h))
-      (let lt : c.loop-i.i < length c.loop-i.s.words = omega (arith, c.loop-i.invariant.1) in rw get_or-set_same (c.low_bits.ensures ∙ ap (λ (m : ℕ). up_to (min m 64)) c.saturating_sub.ensures)),
-  simp length-set c.loop-i.invariant.1,
-)
+pub invariant_of-result : goal.invariant_of-result
+invariant_of-result c =
+    let ws = c.loop-i.w-items in
+    let seven : length ws ≡ 7 = omega arith in (
+      seven,
+      λ k. elim (cases_lt k 7) [
+        | inl l ↦ let e = c.loop-i.invariant k (omega arith) in omega (arith, e, up_to_word (c.args.n - 64 * k))
+        | inr l ↦ let e = get_or_past ws k 0 (omega arith) in omega (arith, e)
+      ],
+    )
 
 pub returns : goal.returns
-returns c = joined_up_to c.loop-i.s.words c.args.n c.loop-i.invariant.1 (λ k h. c.loop-i.invariant.0 k (omega arith))
+returns c = joined_up_to c.loop-i.w-items c.args.n (omega arith) (λ k h. c.loop-i.invariant k (omega arith))

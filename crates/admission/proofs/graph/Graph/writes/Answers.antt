@@ -1,12 +1,14 @@
-use Rattle.std.proofs.Common.{sym, ap, ◌∙◌, arith}
+use Rattle.std.proofs.Common.{◌<◌, ◌≤◌, length, ltb, sym, ap, ◌∙◌, inl, inr}
 use Rattle.std.proofs.lemmas.List.{get_or_past}
-use Rattle.sets.specs.Words.{members}
+use Rattle.std.proofs.lemmas.Bool.{cases_lt, lt-ltb, both_ways}
 use Rattle.rows.specs.declared.Row.{Row}
 use Rattle.rows.specs.Rows.{writes, set_of, end_row}
-use Rattle.rows.proofs.Fields.{members_empty, set_none}
+use Rattle.rows.proofs.Fields.{set_none}
 use Rattle.admission.proofs.graph.Graph.writes.Goals as goal
 
-pub returns : goal.returns
-returns c =
-    ap members c.empty.ensures ∙ members_empty ∙ sym set_none
-    ∙ sym (ap (λ (r : Row). set_of (writes r)) (get_or_past c.args.self.now.rows.now c.args.i end_row (omega arith)))
+pub returns-in-None : goal.returns-in-None
+returns-in-None c =
+    let rows = c.args.self.now.rows.now in
+    let i = c.args.i in
+    let past : length rows ≤ i = elim (cases_lt i (length rows)) [ inl l ↦ absurd (both_ways (ltb i (length rows)) (sym c.in-None.ensures.lookup.0) (lt-ltb i (length rows) l)) | inr g ↦ g ] in
+    c.empty.ensures ∙ sym set_none ∙ sym (ap (λ (r : Row). set_of (writes r)) (get_or_past rows i end_row past))
