@@ -59,15 +59,13 @@ fn mask(classes: &[u8], class: u8) -> NodeSet
 // The members of a set that pass a test.
 pub fn filtered<T: Fn(usize) -> bool>(set: NodeSet, test: T) -> NodeSet
     requires { T.IsAlwaysCallable test }
-    ensures { (t : ℕ → Bool) → ((v : ℕ) (r : Bool) → v < 448 → T.post test v r → r ≡ t v) → (k : ℕ) → has (members result) k ≡ (has (members set) k && t k) }
+    ensures { (t : ℕ → Bool) → ((v : ℕ) (r : Bool) → T.post test v r → r ≡ t v) → (k : ℕ) → has (members result) k ≡ (has (members set) k && t k) }
 {
     let mut kept = NodeSet::EMPTY;
-    let mut v = set.next(0);
-    while v < NodeSet::CAPACITY {
+    for v in set {
         if test(v) {
             kept = kept.with(v);
         }
-        v = set.next(v + 1);
     }
     kept
 }

@@ -1,12 +1,13 @@
 -- What is removed next, and the order of removals.
-use Rattle.std.proofs.Common.{◌≡◌, ℕ, suc, ◌+◌, ◌-◌, ◌*◌, ◌^◌, ◌<◌, ◌≤◌, min, true, false, cond, not, ◌&&◌, eqb, ltb, List, [], ◌∷◌, ◌++◌, map, length, get_or, sym, ap, ◌∙◌, inl, inr, append_assoc, append-nil, arith}
+use Rattle.std.proofs.Common.{◌≡◌, ℕ, suc, ◌+◌, ◌-◌, ◌*◌, ◌^◌, ◌<◌, ◌≤◌, min, true, false, cond, not, ◌&&◌, eqb, ltb, List, [], ◌∷◌, Option, Some, None, ◌++◌, map, length, get_or, sym, ap, ◌∙◌, inl, inr, append_assoc, append-nil, arith}
+use Rattle.std.specs.Option.{unwrap_or}
 use lib.Bits.{bit_xor, xor_lt, and_lt, and_zero_r}
 use Rattle.std.proofs.lemmas.List.{length-take-le}
 use Rattle.std.proofs.lemmas.Nat.{pow_below, pow_pos}
 use Rattle.std.proofs.lemmas.Bool.{cases_lt, cases_eq, lt-ltb, le-ltb, ltb-true, ne_eqb, and_parts}
 use Rattle.counting.specs.Counting.{least, range}
 use Rattle.counting.proofs.Sums.{sum_ext}
-use Rattle.counting.proofs.Searches.{least_is, least_none}
+use Rattle.counting.proofs.Searches.{least_is, least_none, least_below, least_found, least_le}
 use Rattle.sets.specs.Sets.{has, single, meet, minus, up_to, when, size}
 use Rattle.sets.proofs.Members.{has_meet, has_minus, has_single, has_when, has_up_to, has_none, has_past, same_members}
 use Rattle.registers.specs.Model.{Model}
@@ -17,15 +18,12 @@ use Rattle.rounds.specs.Simplify.{cost, remaining, removable, better, cheapest, 
 use Rattle.rounds.specs.Pressure.{pressure}
 use Rattle.rounds.specs.Round.{order_of}
 use Rattle.rows.specs.declared.Row.{Row}
-use Rattle.sets.specs.Words.{members}
-use Rattle.sets.proofs.Words.{joined_lt}
+use Rattle.sets.specs.Rising.{lowest}
 use Rattle.graphs.proofs.Pressing.{sum_cut}
-use Rattle.sets.specs.declared.NodeSet.{NodeSet}
 use Rattle.graphs.specs.declared.variables.Variables.{Variables}
 use Rattle.graphs.specs.Graphs.{classes_of}
 use Rattle.simplify.specs.Lightness.{Light}
 use Rattle.simplify.proofs.Alike.{Alike, removals_alike}
-use Rattle.simplify.proofs.Easing.{following, following_heavy, passed_over}
 
 -- a graph has as many nodes as there are variables
 pub drawn_length : (vs : Variables) → length (classes_of vs) ≡ vs.count
@@ -54,9 +52,6 @@ gone_small x v small = xor_lt 448 x (meet x (when (ltb v 448) (single v))) small
     narrow : when (ltb v 448) (single v) < 2 ^ 448
     narrow = elim (cases_lt v 448) [ inl l ↦ rw (lt-ltb v 448 l) (pow_below v 448 l) | inr l ↦ rw (le-ltb v 448 l) (pow_pos 448) ]
 
-pub members_small : (s : NodeSet) → length s.words ≡ 7 → members s < 2 ^ 448
-members_small s seven = let e : 64 * length s.words ≡ 448 = omega arith in rw e at (joined_lt s.words)
-
 -- the light nodes without the one that is gone
 pub light_gone : (m : Model) (g : Graph) (before light v : ℕ) → Light m g before light → length g.classes ≤ 448 →
     (k : ℕ) → has (minus light (when (ltb v 448) (single v))) k ≡ (has light k && not (eqb k v))
@@ -77,29 +72,29 @@ no_less : (n : ℕ) → ltb n n ≡ false
 no_less n = le-ltb n n (omega arith)
 
 -- the lowest light node is the lowest that can be removed
-lowest_light : (m : Model) (g : Graph) (left light v : ℕ) → Light m g left light → v ≡ following light 0 → v < 448 → (v < length g.classes) × (v ≡ least (removable m g left) (length g.classes))
+lowest_light : (m : Model) (g : Graph) (left light v : ℕ) → Light m g left light → v ≡ least (has light) 448 → v < 448 → (v < length g.classes) × (v ≡ least (removable m g left) (length g.classes))
 lowest_light m g left light v is e l =
-    let here : has light v ≡ true = rw e (following_heavy light 0 (rw e at l)) in
+    let here : has light v ≡ true = rw e (least_found (has light) 448 (rw e at l)) in
     let both = and_parts (ltb v (length g.classes)) (removable m g left v) (sym (is v) ∙ here) in
     let in_graph = ltb-true v (length g.classes) both.0 in (
       in_graph,
       least_is (removable m g left) (length g.classes) v in_graph
-          (λ k b. dark_heavy m g left light k is (omega arith) (passed_over light 0 k (omega arith) (rw e at b)))
+          (λ k b. dark_heavy m g left light k is (omega arith) (least_below (has light) 448 k (rw e at b)))
           both.1,
     )
 
-none_light : (m : Model) (g : Graph) (left light v : ℕ) → Light m g left light → length g.classes ≤ 448 → v ≡ following light 0 → 448 ≤ v → least (removable m g left) (length g.classes) ≡ length g.classes
+none_light : (m : Model) (g : Graph) (left light v : ℕ) → Light m g left light → length g.classes ≤ 448 → v ≡ least (has light) 448 → 448 ≤ v → least (removable m g left) (length g.classes) ≡ length g.classes
 none_light m g left light v is few e l =
     sym (least_none (removable m g left) (length g.classes) (λ k b.
-    dark_heavy m g left light k is b (passed_over light 0 k (omega arith) (omega (arith, e)))))
+    dark_heavy m g left light k is b (least_below (has light) 448 k (omega (arith, e)))))
 
-pub next_tested : (m : Model) (g : Graph) (costs : List ℕ) (left light v : ℕ) → Light m g left light → v ≡ following light 0 → v < 448 → (r : Removed) → r ≡ record { node = v; hoped = false } → r ≡ next_removed m g costs left
+pub next_tested : (m : Model) (g : Graph) (costs : List ℕ) (left light v : ℕ) → Light m g left light → v ≡ least (has light) 448 → v < 448 → (r : Removed) → r ≡ record { node = v; hoped = false } → r ≡ next_removed m g costs left
 unfolding next_removed
 next_tested m g costs left light v is e l r same =
     let (lt, low) = lowest_light m g left light v is e l in
     same ∙ rw (← low, lt-ltb v (length g.classes) lt)
 
-pub next_hoped : (m : Model) (g : Graph) (costs : List ℕ) (left light v : ℕ) → Light m g left light → length g.classes ≤ 448 → v ≡ following light 0 → 448 ≤ v →
+pub next_hoped : (m : Model) (g : Graph) (costs : List ℕ) (left light v : ℕ) → Light m g left light → length g.classes ≤ 448 → v ≡ least (has light) 448 → 448 ≤ v →
     (o : Offer) → o ≡ cheapest m g costs left (length costs) → (r : Removed) → r ≡ record { node = o.node; hoped = true } → r ≡ next_removed m g costs left
 unfolding next_removed
 next_hoped m g costs left light v is few e l o best r same =
@@ -149,3 +144,22 @@ order_done m g h costs vars rows kept i count left nodes alike e is priced count
     let all : kept ≡ removals m h costs count nodes = rw (e, z, append-nil) at is in
     let table = map (cost g rows) (range vars 0) in
     all ∙ sym (removals_alike m g h alike costs count nodes) ∙ ap (λ (cs : List ℕ). removals m g cs count nodes) priced ∙ ap (λ (n : ℕ). removals m g table n nodes) counted ∙ ap (λ (x : ℕ). removals m g table (size (length g.classes) g.nodes) x) (sym same)
+
+-- what the lowest member of a set says
+pub first_some : (x v : ℕ) → Some v ≡ lowest x → (v ≡ least (has x) 448) × (v < 448)
+first_some x v e = elim (cases_lt (least (has x) 448) 448) [
+  | inl l ↦ (let f : Some v ≡ Some (least (has x) 448) = rw (lt-ltb (least (has x) 448) 448 l) at e in let h : v ≡ least (has x) 448 = ap (λ (o : Option ℕ). unwrap_or o 0) f in (h, omega (arith, h, l)))
+  | inr l ↦ (let f : ◌≡◌ {A = Option ℕ} (Some v) None = rw (le-ltb (least (has x) 448) 448 l) at e in absurd (some_none v f))
+]
+  where
+    some_none : (v : ℕ) → ◌≡◌ {A = Option ℕ} (Some v) None → ⊥
+    some_none v f = cc
+
+pub first_none : (x : ℕ) → ◌≡◌ {A = Option ℕ} None (lowest x) → 448 ≤ least (has x) 448
+first_none x e = elim (cases_lt (least (has x) 448) 448) [
+  | inl l ↦ (let f : ◌≡◌ {A = Option ℕ} None (Some (least (has x) 448)) = rw (lt-ltb (least (has x) 448) 448 l) at e in absurd (none_some (least (has x) 448) f))
+  | inr l ↦ l
+]
+  where
+    none_some : (v : ℕ) → ◌≡◌ {A = Option ℕ} None (Some v) → ⊥
+    none_some v f = cc

@@ -54,6 +54,7 @@ impl<'a, F: RegisterFile> Removing<'a, F> {
         requires { length costs.now ≤ 64 }
         ensures { (result.weighing ≡ weighing.entry) × (result.costs ≡ costs.entry) × (result.left ≡ nodes) }
     {
+        nodes.small();
         Removing {
             weighing,
             costs,
@@ -111,17 +112,15 @@ impl<'a, F: RegisterFile> Removing<'a, F> {
     pub fn next_removed(&self) -> Removed
         ensures { result ≡ next_removed_of (F.RegisterFile.model self.now.weighing.file.now) (drawn self.now.weighing) self.now.costs.now (members self.now.left) }
     {
-        let v = self.light.next(0);
-        if v < NodeSet::CAPACITY {
-            Removed {
+        match self.light.first() {
+            Some(v) => Removed {
                 node: v as u16,
                 hoped: false,
-            }
-        } else {
-            Removed {
+            },
+            None => Removed {
                 node: self.cheapest().node,
                 hoped: true,
-            }
+            },
         }
     }
 

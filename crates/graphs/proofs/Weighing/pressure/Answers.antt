@@ -1,4 +1,5 @@
 use Rattle.std.proofs.Common.{◌≡◌, ℕ, ◌+◌, get_or, take, sym, ap, ◌∙◌, arith}
+use Rattle.std.proofs.lemmas.List.{get_or_default}
 use Rattle.std.proofs.lemmas.Nat.{mul-le}
 use Rattle.sets.specs.Sets.{has, size}
 use Rattle.sets.specs.Words.{members, no_set}
@@ -23,7 +24,7 @@ loop-c-preserved g c =
     let vs : Variables = c.args.self.now.variables.now in
     let j : ℕ = c.loop-c.c in
     let near = c.len-near.ensures ∙ ap (size 448) c.meet.ensures
-    ∙ near_is (members c.args.by) (members (get_or vs.masks j no_set)) vs.classes vs.count j (λ k. vs.masked j k (omega arith)) in
+    ∙ near_is c.args.by (get_or vs.masks j c.mask-item.result) vs.classes vs.count j (λ k. ap (λ (s : ℕ). has s k) (get_or_default vs.masks j c.mask-item.result 0 (omega (arith, vs.whole.1))) ∙ vs.masked j k (omega arith)) in
     let more = pressed_more m vs.classes vs.count c.class-b.result (has (members c.args.by)) j c.len-near.result near in
     rw (c.q.ensures, c.loop-c.invariant) (sym more)
 
