@@ -1,7 +1,7 @@
 -- Lists that keep no more than 512 of their elements.
 use Rattle.std.proofs.Common.{◌≡◌, ℕ, zero, suc, ◌+◌, ◌<◌, ◌≤◌, List, [], ◌∷◌, ◌++◌, map, length, get_or, take, set, sym, refl, ap, ◌∙◌, inl, inr, add-zero, zero-add, add-one, arith, length-take}
 use lib.ListN.{length-map}
-use Rattle.std.proofs.lemmas.List.{take_more_set, take_all, take_at, take-append-le, length-take-le, length_push, map_more, map_push}
+use Rattle.std.proofs.lemmas.List.{take_more_set, take_all, take_at, take-append-le, length-take-le, map_more, map_push}
 use Rattle.std.proofs.lemmas.Bool.{cases_lt}
 use Rattle.counting.specs.Counting.{range}
 

@@ -1,4 +1,4 @@
-use Rattle.std.proofs.Common.{◌≡◌, ℕ, ◌+◌, ◌++◌, length, arith}
+use Rattle.std.proofs.Common.{◌++◌}
 use Rattle.rewriting.specs.Temporaries.{temporaries, noted}
 use Rattle.rewriting.proofs.Noting.{notes_notes}
 use Rattle.rewriting.proofs.Rewriting.temporaries.Goals as goal

@@ -1,5 +1,4 @@
-use Rattle.std.proofs.Common.{◌<◌, length, sym, ap, ◌∙◌, arith}
-use Rattle.std.proofs.lemmas.List.{map_more}
+use Rattle.std.proofs.Common.{◌<◌, length, ap, arith}
 use Rattle.compiling.specs.Blocks.{moved}
 use Rattle.layout.proofs.Lists.{mapped_push}
 use Rattle.layout.proofs.blocks.Layout.moved.Goals as goal
