@@ -21,7 +21,7 @@ ghost use Rattle.allocation.specs.Allocation.{afterwards};
 ghost use Rattle.stages.specs.Stages.{program_in, working_in, coloured_in, compiled_in, holding, Turned, Ready};
 
 use admission::{admitted, short_part};
-use allocation::allocate;
+use allocation::Round;
 use drafts::draft::Draft;
 use drafts::token::Token;
 use emission::colour;
@@ -130,15 +130,13 @@ fn take_turn<F: RegisterFile>(
     let lines = Lines {
         rows: &draft.rows[..draft.count],
     };
-    let end = allocate(
+    let round = Round {
         file,
-        &variables,
-        draft.unspilled(),
+        variables: &variables,
+        nodes: draft.unspilled(),
         lines,
-        first,
-        second,
-        third,
-    );
+    };
+    let end = round.allocate(first, second, third);
     if end.spilled.is_empty() {
         Ok(colour(draft, &end))
     } else {

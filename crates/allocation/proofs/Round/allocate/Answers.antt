@@ -1,6 +1,6 @@
 use Rattle.admission.specs.Memory.{parts}
 use Rattle.allocation.proofs.Emptying.{roomy_emptied}
-use Rattle.allocation.proofs.allocate.Goals as goal
+use Rattle.allocation.proofs.Round.allocate.Goals as goal
 
 pub returns : goal.returns
 returns g c =
