@@ -1,11 +1,9 @@
 -- The light nodes when one node more is gone.
-use Rattle.std.proofs.Common.{◌≡◌, ℕ, ◌+◌, ◌-◌, ◌<◌, ◌≤◌, min, Bool, true, false, cond, not, ◌&&◌, ◌||◌, eqb, ltb, leb, length, sym, refl, ap, ◌∙◌, inl, inr, arith}
-use Rattle.std.proofs.lemmas.Bool.{cases_Bool, cases_lt, cases_eq, lt-ltb, le-ltb, ltb-true, le-leb, leb-true, eq-eqb, ne_eqb, and_parts, and_right}
-use Rattle.counting.specs.Counting.{least}
+use Rattle.std.proofs.Common.{◌≡◌, ℕ, ◌≤◌, min, Bool, true, false, cond, not, ◌&&◌, ◌||◌, eqb, ltb, length, sym, refl, ap, ◌∙◌, inl, inr, arith}
+use Rattle.std.proofs.lemmas.Bool.{cases_Bool, cases_eq, lt-ltb, ltb-true, ne_eqb}
 use Rattle.counting.proofs.Sums.{sum_ext, sum_below}
-use Rattle.counting.proofs.Searches.{least_below, least_found, least_le}
-use Rattle.sets.specs.Sets.{has, single, union, meet, minus, up_to, when}
-use Rattle.sets.proofs.Members.{has_union, has_meet, has_minus, has_single, has_when, has_up_to}
+use Rattle.sets.specs.Sets.{has, single, meet, minus, up_to}
+use Rattle.sets.proofs.Members.{has_meet, has_minus, has_single, has_up_to}
 use Rattle.registers.specs.Model.{Model}
 use Rattle.rounds.specs.Interference.{Graph, class_at, neighbours}
 use Rattle.rounds.specs.Pressure.{pressure, passes}

@@ -7,7 +7,7 @@ use Rattle.std.proofs.lemmas.Nat.{pow_below, pow_pos}
 use Rattle.std.proofs.lemmas.Bool.{cases_lt, cases_eq, lt-ltb, le-ltb, ltb-true, ne_eqb, and_parts}
 use Rattle.counting.specs.Counting.{least, range}
 use Rattle.counting.proofs.Sums.{sum_ext}
-use Rattle.counting.proofs.Searches.{least_is, least_none, least_below, least_found, least_le}
+use Rattle.counting.proofs.Searches.{least_is, least_none, least_below, least_found}
 use Rattle.sets.specs.Sets.{has, single, meet, minus, up_to, when, size}
 use Rattle.sets.proofs.Members.{has_meet, has_minus, has_single, has_when, has_up_to, has_none, has_past, same_members}
 use Rattle.registers.specs.Model.{Model}

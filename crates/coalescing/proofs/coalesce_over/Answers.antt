@@ -1,6 +1,5 @@
 use Rattle.std.proofs.Common.{◌≡◌, ℕ, suc, ◌+◌, ◌-◌, List, get_or, take, sym, refl, ap, ◌∙◌, ap₂, arith}
 use Rattle.counting.specs.Counting.{range}
-use Rattle.sets.specs.declared.NodeSet.{NodeSet}
 use Rattle.sets.specs.Words.{members, sets_of}
 use Rattle.rounds.specs.declared.Ends.{Ends}
 use Rattle.rounds.specs.Interference.{Graph, node_at}
@@ -14,7 +13,7 @@ use Rattle.coalescing.proofs.Coalescing.{coalesced_none, coalesced_stop, coalesc
 use Rattle.coalescing.proofs.coalesce_over.Goals as goal
 
 -- the graph before any merge
-start : (v : Variables) (u : Merged) (nodes : NodeSet) (edges hard : List NodeSet) → (u.node ≡ range 448 0) × (u.nodes ≡ nodes) →
+start : (v : Variables) (u : Merged) (nodes : ℕ) (edges hard : List ℕ) → (u.node ≡ range 448 0) × (u.nodes ≡ nodes) →
     graph_of v u edges hard ≡ graph (classes_of v) (range v.count 0) (members nodes) (sets_of edges) (sets_of hard)
 start v u nodes edges hard e =
     ap₂ (λ (ns : List ℕ) (s : ℕ). graph (classes_of v) ns s (sets_of edges) (sets_of hard)) (ap (take v.count) e.0 ∙ take_range v.count 448 0 v.few.1) (ap members e.1)

@@ -1,4 +1,4 @@
-use Rattle.std.proofs.Common.{◌≡◌, ℕ, ◌<◌, Bool}
+use Rattle.std.proofs.Common.{◌≡◌, ℕ, Bool}
 use Rattle.sets.specs.Rising.{rising}
 use Rattle.sets.specs.Walks.{left_of}
 use Rattle.graphs.proofs.Walking.{chosen}

@@ -2,7 +2,7 @@ use Rattle.std.proofs.Common.{◌≡◌, ℕ, ◌+◌, get_or, take, sym, ap, �
 use Rattle.std.proofs.lemmas.List.{get_or_default}
 use Rattle.std.proofs.lemmas.Nat.{mul-le}
 use Rattle.sets.specs.Sets.{has, size}
-use Rattle.sets.specs.Words.{members, no_set}
+use Rattle.sets.specs.Words.{members}
 use Rattle.sets.proofs.Orders.{size_capped}
 use Rattle.registers.specs.Model.{Model}
 use Rattle.graphs.specs.declared.variables.Variables.{Variables}
