@@ -3,8 +3,9 @@ use Rattle.std.proofs.lemmas.List.{length-take-le}
 use Rattle.selection.proofs.Selecting.{settled_below}
 use Rattle.selection.proofs.Occupants.settle.Goals as goal
 
-pub slice_bounds-set-items-end : goal.slice_bounds-set-items-end
-slice_bounds-set-items-end g c = omega (arith, c.R.ensures, (g.met.F.RegisterFile.lawful c.args.self.now.file.now).few, g.met.F.RegisterFile.sized c.args.self.now.file.now)
+pub whole_as_front-set-items : goal.whole_as_front-set-items
+whole_as_front-set-items g c =
+    (omega (arith, c.R.ensures, (g.met.F.RegisterFile.lawful c.args.self.now.file.now).few, g.met.F.RegisterFile.sized c.args.self.now.file.now), omega arith)
 
 pub returns-clause-settled : goal.returns-clause-settled
 returns-clause-settled g c =
