@@ -42,6 +42,7 @@ fn registers_of(draft: &Draft, end: &Colouring) -> [u8; 448]
 fn places_of(draft: &Draft, end: &Colouring) -> [Place; 64]
     ensures { take draft.now.source.vars result ≡ map (place_after draft.now end.now) (range draft.now.source.vars 0) }
 {
+    // Filled by number, since a proof knows nothing of elements that a walk over a part of an array wrote.
     let mut places = draft.places;
     for v in 0..draft.source.vars {
         places[v] = place_of(draft, end, v);

@@ -70,6 +70,7 @@ impl<'a> Round<'a> {
     fn slots(&self) -> [u8; 64]
         ensures { take self.now.draft.now.source.vars result ≡ map (λ v. slot_below_of self.now.draft.now self.now.end.now (node_in self.now.draft.now self.now.end.now v)) (range self.now.draft.now.source.vars 0) }
     {
+        // Filled by number, since a proof knows nothing of elements that a walk over a part of an array wrote.
         let mut slots = [0; 64];
         for v in 0..self.draft.source.vars {
             slots[v] = self.slot_below(self.node_of(v));
@@ -116,6 +117,7 @@ impl<'a> Rewriting<'a> {
     fn places(&self, round: u8) -> [Place; 64]
         ensures { take self.now.draft.now.source.vars result ≡ map (place_spilled self.now.draft.now self.now.token.now round) (range self.now.draft.now.source.vars 0) }
     {
+        // Filled by number, since a proof knows nothing of elements that a walk over a part of an array wrote.
         let mut places = self.draft.places;
         for v in 0..self.draft.source.vars {
             places[v] = self.place_of(round, v);
