@@ -4,7 +4,7 @@ ghost use Rattle.graphs.specs.Facts.{Masked};
 use sets::NodeSet;
 
 // The variables of a working program: the first `source` of them are those of the source, the rest temporaries.
-// Beside the classes stands the set of the variables of each class.
+// Beside the classes stands the set of the variables of each class. There is no heap, so the memory is fixed.
 #[derive(Clone, Copy)]
 pub struct Variables {
     pub source: usize,
