@@ -18,14 +18,14 @@ use simplify::simplify;
 
 // A round on a working program: its register file, its variables, those that are nodes, and its rows.
 #[derive_where(Clone, Copy)]
-pub struct Round<'a, F> {
+pub struct Round<'a, 'b, F> {
     pub file: &'a F,
     pub variables: &'a Variables,
     pub nodes: NodeSet,
-    pub lines: Lines<'a>,
+    pub lines: Lines<'b>,
 }
 
-impl<'a, F: RegisterFile> Round<'a, F> {
+impl<F: RegisterFile> Round<'_, '_, F> {
     // With one set of edges and one of hard edges for each variable, whatever they held.
     fn colour(
         &self,

@@ -8,7 +8,7 @@ use Rattle.sets.specs.declared.NodeSet.{NodeSet}
 use Rattle.sets.specs.Words.{cleared, empty_set}
 use Rattle.rows.specs.Rows.{Program}
 use Rattle.source.specs.Reading.{reading}
-use Rattle.admission.specs.Admission.{admitting, judged, faultless, fact_fault}
+use Rattle.admission.specs.Admission.{unless_fault, admitting, judged, faultless, fact_fault}
 use Rattle.admission.specs.Memory.{Parts, parts, short_part, emptied, answered, answered_by, unless_short}
 use Rattle.admission.proofs.Judging.{roomy}
 use Rattle.allocation.specs.Allocation.{afterwards}
@@ -45,7 +45,7 @@ emptied_twice m =
 
 pub emptied_whole : (m : Parts) → short_part m ≡ None → short_part (emptied m) ≡ None
 emptied_whole m h =
-    let (a, b, c) = roomy m (sym h) in
+    let (a, b, c) = roomy m (sym (ap unless_fault h)) in
     let x = cleared_long 512 m.first a in
     let y = cleared_long 448 m.second b in
     let z = cleared_long 448 m.third c in
