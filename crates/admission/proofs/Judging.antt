@@ -66,9 +66,9 @@ earliest_none t n low = let e = least_none t n low in rw (← e, le-ltb n n (ome
 
 found : (t : ℕ → Bool) (n k : ℕ) → Some k ≡ earliest t n → (k ≡ least t n) × (k < n)
 found t n k e = elim (cases_lt (least t n) n) [
-    | inl l ↦ (let s : Some k ≡ Some (least t n) = e ∙ rw (lt-ltb (least t n) n l) refl in let q : k ≡ least t n = ap value s in (q, omega (arith, q, l)))
-    | inr l ↦ (let z : ◌≡◌ {A = Option ℕ} (Some k) None = e ∙ rw (le-ltb (least t n) n l) refl in cc)
-  ]
+  | inl l ↦ (let s : Some k ≡ Some (least t n) = e ∙ rw (lt-ltb (least t n) n l) refl in let q : k ≡ least t n = ap value s in (q, omega (arith, q, l)))
+  | inr l ↦ (let z : ◌≡◌ {A = Option ℕ} (Some k) None = e ∙ rw (le-ltb (least t n) n l) refl in cc)
+]
   where
     value : Option ℕ → ℕ
     value (Some k) = k

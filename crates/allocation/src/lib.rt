@@ -27,12 +27,7 @@ pub struct Round<'a, 'b, F> {
 
 impl<F: RegisterFile> Round<'_, '_, F> {
     // With one set of edges and one of hard edges for each variable, whatever they held.
-    fn colour(
-        &self,
-        live: &mut [NodeSet],
-        edges: &mut [NodeSet],
-        hard: &mut [NodeSet],
-    ) -> Colouring
+    fn colour(&self, live: &mut [NodeSet], edges: &mut [NodeSet], hard: &mut [NodeSet]) -> Colouring
         requires live { 512 ≤ length live.old }
         requires edges { length edges.old ≡ self.now.variables.now.count }
         requires hard { length hard.old ≡ self.now.variables.now.count }

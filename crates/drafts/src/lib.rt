@@ -45,20 +45,14 @@ impl Draft {
     pub fn class_of(&self, v: usize) -> u8
         ensures { result ≡ slice_index (working_of self.now).classes v }
     {
-        self.classes[..self.nodes]
-            .get(v)
-            .copied()
-            .unwrap_or(0)
+        self.classes[..self.nodes].get(v).copied().unwrap_or(0)
     }
 
     // The register of variable v of a coloured program, or 0 past the last.
     pub fn register_of(&self, v: usize) -> u8
         ensures { result ≡ slice_index (coloured_of self.now).registers v }
     {
-        self.registers[..self.nodes]
-            .get(v)
-            .copied()
-            .unwrap_or(0)
+        self.registers[..self.nodes].get(v).copied().unwrap_or(0)
     }
 
     // The place of variable v. Past those of the source, no round has placed it.
@@ -106,10 +100,7 @@ impl Colouring {
     pub fn register_of(&self, n: usize, node: usize) -> u8
         ensures { result ≡ slice_index (take n self.now.registers) node }
     {
-        self.registers[..n.min(448)]
-            .get(node)
-            .copied()
-            .unwrap_or(0)
+        self.registers[..n.min(448)].get(node).copied().unwrap_or(0)
     }
 }
 

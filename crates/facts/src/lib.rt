@@ -49,7 +49,11 @@ fn entering<K: FactKind>(kind: &K, i: usize) -> NodeSet
 {
     let last = kind.rows().saturating_sub(1);
     let first = if kind.backward() { last } else { 0 };
-    if i == first { kind.entry() } else { kind.least() }
+    if i == first {
+        kind.entry()
+    } else {
+        kind.least()
+    }
 }
 
 fn fact_at<K: FactKind>(kind: &K, facts: &[NodeSet], j: usize) -> NodeSet

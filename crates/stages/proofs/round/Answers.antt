@@ -10,7 +10,7 @@ take_turn-requires g c = ready_of _ _ c.args.p.grown (g.met.F.RegisterFile.lawfu
 pub invariant_of-result-2 : goal.invariant_of-result-2
 invariant_of-result-2 g c = record {
   ended = elim c.match-take_turn.branch [
-    in-Ok w ↦ rw w.result-is (left_painted (g.F.RegisterFile.model c.args.file.now) (working_of c.args.p.record.now.draft) w.in-Ok.draft c.args.p.grown (g.met.F.RegisterFile.lawful c.args.file.now) w.in-Ok.ensures.turned)
+    | in-Ok w ↦ rw w.result-is (left_painted (g.F.RegisterFile.model c.args.file.now) (working_of c.args.p.record.now.draft) w.in-Ok.draft c.args.p.grown (g.met.F.RegisterFile.lawful c.args.file.now) w.in-Ok.ensures.turned)
     | in-Err w ↦ rw w.result-is (left_pending (g.F.RegisterFile.model c.args.file.now) (working_of c.args.p.record.now.draft) w.in-Err.token c.args.p.grown (g.met.F.RegisterFile.lawful c.args.file.now) w.in-Err.ensures.turned)
   ];
 }
