@@ -274,3 +274,26 @@ impl Desk {
         }
     }
 }
+
+#[cfg(test)]
+mod tests {
+    use super::*;
+    use stages::Record;
+    use std::test::Fail;
+
+    #[test]
+    fn a_reply_to_a_line_that_compiles(rt: HostRuntime) -> Result<(), Fail> {
+        let mut admitted = Record::new();
+        let mut admitted = Admitted::over(&mut admitted);
+        let mut compiled = Record::new();
+        let mut compiled = Compiled::over(&mut compiled);
+        let mut desk = Desk::new(rt.alloc());
+        let mut out = Vec::new(rt.alloc());
+        desk.reply(&mut admitted, &mut compiled, b"000100000000 1", &mut out)?;
+        assert_eq!(rt;
+            out.as_slice(),
+            b"000100000000 1 compiled rounds=1 slots=0 vars=- code=0,0,-,-,-,-,-,-\n".as_slice()
+        );
+        Ok(())
+    }
+}

@@ -19,7 +19,7 @@ ghost use Rattle.coalescing.specs.Merges.{graph_of, JoinsEnds};
 
 use copies::Copies;
 use graphs::variables::Variables;
-use graphs::{Weighing, beside, filtered};
+use graphs::{Weighing, beside};
 use merged::Merged;
 use pair::Pair;
 use registers::RegisterFile;
@@ -68,7 +68,7 @@ impl<'a, F: RegisterFile> Merging<'a, F> {
     fn heavy_beside(&self, pair: Pair) -> NodeSet
         ensures { (h : Graph) → h.classes ≡ classes_of self.now.weighing.variables.now → h.edges ≡ contracted pair.low pair.high (sets_of self.now.weighing.edges.now) → (k : ℕ) → has (members result) k ≡ heavy_of (F.RegisterFile.model self.now.weighing.file.now) h pair.low k }
     {
-        filtered(pair.beside(self.weighing.edges), |k| self.fails(pair, k))
+        pair.beside(self.weighing.edges).filter(|k| self.fails(pair, k))
     }
 
     // The pair of nodes x and y, if they may be merged.

@@ -1,4 +1,3 @@
 pub mod Masks
 pub mod Pressing
-pub mod Walking
 pub mod Drawing

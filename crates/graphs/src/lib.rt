@@ -2,7 +2,7 @@
 
 pub mod variables;
 
-ghost use Rattle.std.specs.Prelude.{◌≡◌, ℕ, ◌<◌, ◌≤◌, min, Bool, ◌&&◌, length, take, ◌==◌, nat_lt, slice_index};
+ghost use Rattle.std.specs.Prelude.{◌≡◌, ℕ, ◌<◌, ◌≤◌, min, ◌&&◌, length, take, ◌==◌, nat_lt, slice_index};
 ghost use Rattle.sets.specs.Sets.{has};
 ghost use Rattle.sets.specs.Words.{members, sets_of};
 ghost use Rattle.rounds.specs.Interference.{Graph, beside as beside_of};
@@ -54,20 +54,6 @@ fn mask(classes: &[u8], class: u8) -> NodeSet
         }
     }
     set
-}
-
-// The members of a set that pass a test.
-pub fn filtered<T: Fn(usize) -> bool>(set: NodeSet, test: T) -> NodeSet
-    requires { T.IsAlwaysCallable test }
-    ensures { (t : ℕ → Bool) → ((v : ℕ) (r : Bool) → T.post test v r → r ≡ t v) → (k : ℕ) → has (members result) k ≡ (has (members set) k && t k) }
-{
-    let mut kept = NodeSet::EMPTY;
-    for v in set {
-        if test(v) {
-            kept = kept.with(v);
-        }
-    }
-    kept
 }
 
 // The neighbours of v: every question about edges is asked here.

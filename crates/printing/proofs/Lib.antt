@@ -1,4 +1,3 @@
 mod Lists
-mod Numbers
 mod Parts
 mod Worked

@@ -2,10 +2,11 @@
 
 pub mod calls;
 
-ghost use Rattle.std.specs.Prelude.{◌≡◌, ℕ, List, ◌+◌, ◌≤◌, ◌++◌, length, vec_len, vec_capacity, decimal, OnOk};
+ghost use Rattle.std.specs.Prelude.{◌≡◌, ℕ, List, ◌++◌, decimal, OnOk};
 ghost use Rattle.printing.specs.Texts.{joined, numbers_text, home_letter as home_letter_of, mark_letter as mark_letter_of, place_text, places_text, item, items_of, row_text, rows_text, compiled_text};
 
 use compiling::{Home, Place};
+use itoa::Buffer;
 use rows::Row;
 use std::alloc::AllocError;
 
@@ -40,29 +41,13 @@ pub fn write_list<T: Told>(
     }
 }
 
-// Adds a number; there is room for its digits.
-fn put_number(n: u32, out: &mut Vec<u8>)
-    requires { vec_len out.old + length (decimal n) ≤ vec_capacity out.old }
-    ensures items { out.new.items ≡ out.old.items ++ decimal n }
-    ensures len { vec_len out.new ≡ vec_len out.old + length (decimal n) }
-    ensures capacity { vec_capacity out.new ≡ vec_capacity out.old }
-{
-    if n < 10 {
-        out.push_reserved(b'0' + n as u8);
-        return;
-    }
-    put_number(n / 10, out);
-    out.push_reserved(b'0' + (n % 10) as u8);
-}
-
 // A number in decimal digits.
 impl Told for u32 {
     ghost text = { decimal };
 
     fn tell(self, out: &mut Vec<u8>) -> Result<(), AllocError> {
-        out.reserve(10)?;
-        put_number(self, out);
-        Ok(())
+        let mut buffer = Buffer::new();
+        out.extend_from_slice(buffer.format(self).as_bytes())
     }
 }
 
@@ -80,6 +65,7 @@ pub fn write_numbers(numbers: &[u32], out: &mut Vec<u8>) -> Result<(), AllocErro
     write_list(numbers, b',', b"-", out)
 }
 
+// The letters stand in a line of bytes: a Display would print them into a text first.
 fn home_letter(home: Home) -> u8
     ensures { result ≡ home_letter_of home }
 {
@@ -176,7 +162,8 @@ pub fn write_rows(rows: &[Row], out: &mut Vec<u8>) -> Result<(), AllocError>
     write_list(rows, b';', b"", out)
 }
 
-// Adds the words on a compiled program: how many rounds and slots, the places of the variables, the code.
+// Adds the words on a compiled program: how many rounds and slots, the places of the variables, the code. Its caller has
+// the four from four questions to a state, and no struct that holds them.
 pub fn write_compiled(
     rounds: u8,
     slots: u8,
@@ -194,4 +181,27 @@ pub fn write_compiled(
     write_places(places, out)?;
     out.extend_from_slice(b" code=")?;
     write_rows(rows, out)
+}
+
+#[cfg(test)]
+mod tests {
+    use super::*;
+    use std::test::Fail;
+
+    #[test]
+    fn a_list_of_numbers(rt: HostRuntime) -> Result<(), Fail> {
+        let mut out = Vec::new(rt.alloc());
+        write_list(&[7_u32, 4_294_967_295, 0], b';', b"none", &mut out)?;
+        assert_eq!(rt; out.as_slice(), b"7;4294967295;0".as_slice());
+        Ok(())
+    }
+
+    #[test]
+    fn an_empty_list(rt: HostRuntime) -> Result<(), Fail> {
+        let mut out = Vec::new(rt.alloc());
+        let numbers: [u32; 0] = [];
+        write_list(&numbers, b';', b"none", &mut out)?;
+        assert_eq!(rt; out.as_slice(), b"none".as_slice());
+        Ok(())
+    }
 }

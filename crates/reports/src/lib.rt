@@ -234,13 +234,13 @@ pub struct Rows<'a, 'b> {
 impl fmt::Display for Rows<'_, '_> {
     fn fmt<W: fmt::Write>(&self, f: &mut fmt::Formatter<W>) -> fmt::Result {
         writeln!(f, "  row  weight  opcode and operands")?;
-        // The state tells its rows by their numbers and lends no slice of them.
-        for i in 0..self.program.count() {
-            if let Some(row) = self.program.row(i) {
-                let weight = row.weight;
-                let text = Spelled { letter: 'v', row };
-                writeln!(f, "{i:>5} {weight:>7}  {text}")?;
-            }
+        for (i, row) in self.program.source_rows().iter().enumerate() {
+            let weight = row.weight;
+            let text = Spelled {
+                letter: 'v',
+                row: *row,
+            };
+            writeln!(f, "{i:>5} {weight:>7}  {text}")?;
         }
         Ok(())
     }

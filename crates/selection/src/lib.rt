@@ -24,7 +24,7 @@ fn are_apart(a: NodeSet, b: NodeSet) -> bool
     a.meet(b).is_empty()
 }
 
-// A set with v, or without it.
+// A set with v, or without it: whether v is inside is reckoned, and a branch at each caller would say no more.
 fn placed(set: NodeSet, v: usize, inside: bool) -> NodeSet
     ensures { (k : ℕ) → k < 448 → has (members result) k ≡ (if nat_eq v k then inside else has (members set) k) }
 {

@@ -3,3 +3,4 @@ pub mod Orders
 pub mod Rises
 pub mod Sizes
 pub mod Words
+mod Choosing

@@ -1,6 +1,6 @@
 #![tactic(auto)]
 
-ghost use Rattle.std.specs.Prelude.{◌≡◌, ℕ, ◌^◌, ◌<◌, min, length, ◌==◌, nat_lt, slice_index};
+ghost use Rattle.std.specs.Prelude.{◌≡◌, ℕ, ◌^◌, ◌<◌, min, Bool, ◌&&◌, length, ◌==◌, nat_lt, slice_index};
 ghost use Rattle.std.specs.Iterator.{YieldsFirst, item_count};
 ghost use Rattle.sets.specs.Sets.{has, single as single_of, union as union_of, meet as meet_of, minus as minus_of, up_to, when, size as size_of};
 ghost use Rattle.sets.specs.Rising.{rising, lowest};
@@ -146,6 +146,20 @@ impl NodeSet {
             n += w.count_ones();
         }
         n
+    }
+
+    // The members that pass a test.
+    pub fn filter<T: Fn(usize) -> bool>(self, test: T) -> NodeSet
+        requires { T.IsAlwaysCallable test }
+        ensures { (t : ℕ → Bool) → ((v : ℕ) (r : Bool) → T.post test v r → r ≡ t v) → (k : ℕ) → has result k ≡ (has self k && t k) }
+    {
+        let mut kept = NodeSet::empty();
+        for v in self {
+            if test(v) {
+                kept = kept.with(v);
+            }
+        }
+        kept
     }
 
     // The lowest member.

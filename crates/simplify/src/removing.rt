@@ -7,7 +7,7 @@ ghost use Rattle.rounds.specs.Simplify.{remaining, removable as removable_of, be
 ghost use Rattle.graphs.specs.Graphs.{drawn};
 ghost use Rattle.simplify.specs.Lightness.{Light};
 
-use graphs::{Weighing, filtered};
+use graphs::Weighing;
 use registers::RegisterFile;
 use rounds::{Offer, Removed};
 use sets::NodeSet;
@@ -37,7 +37,7 @@ fn light_nodes<F: RegisterFile>(weighing: &Weighing<F>, left: NodeSet) -> NodeSe
     ensures { Light (F.RegisterFile.model weighing.now.file.now) (drawn weighing.now) (members left) (members result) }
 {
     let all = NodeSet::up_to(weighing.variables.count);
-    filtered(all, |v| removable(weighing, left, v))
+    all.filter(|v| removable(weighing, left, v))
 }
 
 // Whether v had `gone` for a neighbour and passes the test now.
@@ -132,7 +132,7 @@ impl<'a, F: RegisterFile> Removing<'a, F> {
         let weighing = &self.weighing;
         let all = NodeSet::up_to(weighing.variables.count);
         let heavy = left.minus(self.light).meet(all);
-        let lighter = filtered(heavy, |v| eased(weighing, left, gone, v));
+        let lighter = heavy.filter(|v| eased(weighing, left, gone, v));
         self.light.without(gone).union(lighter)
     }
 

@@ -71,6 +71,8 @@ impl<'a> Admitted<'a> {
     }
 }
 
+// The three parts of memory are three slices in every call, as a caller in another language has them.
+//
 // Admits a file: the record then holds its program, before its first round. A refusal leaves the record as it was.
 // Which files are admitted is told by paths: those that can be read, whose rows all lie on paths from row 0 on which
 // each read follows a write. The memory is three parts of at least 512, 448 and 448 node sets; what it holds counts for nothing.

@@ -62,6 +62,8 @@ impl Record {
     }
 }
 
+// Each state tells what it has, by one call of its record: what both have stands in both, for a state lends its record to
+// nobody.
 impl<'a> Admitted<'a> {
     pub fn vars(&self) -> usize
         ensures { result ≡ (program_in self.now.record.now).vars }
@@ -81,6 +83,13 @@ impl<'a> Admitted<'a> {
         ensures { result ≡ (if nat_lt v (program_in self.now.record.now).vars then Some (slice_index (program_in self.now.record.now).classes v) else None) }
     {
         self.record.class(v)
+    }
+
+    // All rows of the source.
+    pub fn source_rows(&self) -> &[Row]
+        ensures { result.now ≡ (program_in self.now.record.now).rows }
+    {
+        self.record.source_rows()
     }
 
     // Row i of the source; none for a number that is no row.

@@ -13,5 +13,5 @@ returns g c = λ k.
     let n : ℕ = w.variables.now.count in
     let few : min n 448 ≡ n = omega (arith, w.variables.now.few.1) in
     let t : ℕ → Bool = removable (g.F.RegisterFile.model w.file.now) (drawn w) (members c.args.left) in
-    c.filtered.ensures t (λ v r h. search (rules, of_calls)) k
+    c.filter.ensures t (λ v r h. search (rules, of_calls)) k
     ∙ ap (λ (b : Bool). b && t k) (ap (λ (x : ℕ). has x k) (c.up_to-all.ensures ∙ ap up_to few) ∙ has_up_to n k ∙ ap (ltb k) (sym (drawn_length w.variables.now)))

@@ -18,7 +18,7 @@ returns g c =
     let light = members s.light in
     let heavy = members c.meet-heavy.result in
     let kept = members c.without.result in
-    let lighter = members c.filtered-lighter.result in
+    let lighter = members c.filter-lighter.result in
     let n : ℕ = s.weighing.variables.now.count in
     let few : n ≤ 448 = s.weighing.variables.now.few.1 in
     let long : length gr.classes ≡ n = drawn_length s.weighing.variables.now in
@@ -29,4 +29,4 @@ returns g c =
     (λ k. heavy_is left light n heavy few made k ∙ ap (λ (j : ℕ). (has left k && not (has light k)) && ltb k j) (sym long))
     (λ k. ap (λ (x : ℕ). has x k) c.union.ensures ∙ has_union kept lighter k
     ∙ ap (λ (b : Bool). b || has lighter k) (ap (λ (x : ℕ). has x k) c.without.ensures ∙ light_gone m gr (members s.left) light c.args.gone s.lit (omega (arith, few, long)) k)
-    ∙ ap (◌||◌ _) (c.filtered-lighter.ensures t (λ v r h. search (rules, of_calls)) k))
+    ∙ ap (◌||◌ _) (c.filter-lighter.ensures t (λ v r h. search (rules, of_calls)) k))

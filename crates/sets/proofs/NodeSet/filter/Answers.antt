@@ -1,12 +1,11 @@
 use Rattle.std.proofs.Common.{ℕ, sym, ap, ◌∙◌}
 use Rattle.sets.specs.Sets.{has}
-use Rattle.sets.specs.Words.{joined}
-use Rattle.graphs.proofs.Walking.{chosen, chosen_yes, chosen_no, chosen_none, chosen_all}
-use Rattle.graphs.proofs.filtered.Goals as goal
+use Rattle.sets.specs.Walks.{left_of}
+use Rattle.sets.proofs.Choosing.{chosen, chosen_yes, chosen_no, chosen_none, chosen_all}
+use Rattle.sets.proofs.NodeSet.filter.Goals as goal
 
 pub loop-v-init : goal.loop-v-init
-unfolding joined
-loop-v-init g c = λ t agree. ap (chosen t 0) c.into_iter-v-iterator.ensures.into_iter_gives.0
+loop-v-init g c = λ t agree. ap (λ (s : ℕ). chosen t s (left_of c.into_iter-v-iterator.result)) c.empty-kept.ensures ∙ ap (chosen t 0) c.into_iter-v-iterator.ensures.into_iter_gives.0
 
 pub loop-v-preserved-then-test : goal.loop-v-preserved-then-test
 loop-v-preserved-then-test g c = λ t agree.
@@ -20,4 +19,4 @@ pub returns : goal.returns
 returns g c = λ t agree k.
     let gives = c.into_iter-v-iterator.ensures.into_iter_gives in
     let all = chosen_none t c.loop-v.kept _ _ c.in-None.ensures.steps.0 (c.loop-v.invariant t agree) in
-    ap (λ (x : ℕ). has x k) all ∙ chosen_all t c.args.set gives.1 k
+    ap (λ (x : ℕ). has x k) all ∙ chosen_all t c.args.self gives.1 k
