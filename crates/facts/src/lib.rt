@@ -1,7 +1,7 @@
 #![tactic(auto)]
 
-ghost use Rattle.std.specs.Prelude.{◌≡◌, ℕ, ◌<◌, ◌≤◌, true, false, not, [], ◌∷◌, length, take, drop, set, is_ok, ◌==◌, slice_index, slice_index_or};
-ghost use Rattle.sets.specs.Rising.{rising};
+ghost use Rattle.std.specs.Prelude.{◌≡◌, ℕ, ◌<◌, ◌≤◌, true, false, not, List, [], ◌∷◌, length, take, drop, set, is_ok, ◌==◌, slice_index, slice_index_or};
+ghost use Rattle.std.specs.Iterator.{Drains, IsFinite};
 ghost use Rattle.rows.specs.Rows.{rows_left};
 ghost use Rattle.facts.specs.Flow.{Flow, Lawful, rows as rows_of, feeders, turns, enters, at, gather, incoming as incoming_of, yields, sweep as swept, solved};
 ghost use Rattle.facts.specs.Solving.{Listing, comer_sets, suffices, Tells, Answers};
@@ -62,26 +62,21 @@ fn fact_at<K: FactKind>(kind: &K, facts: &[NodeSet], j: usize) -> NodeSet
     facts.get(j).copied().unwrap_or_else(|| kind.least())
 }
 
-// What comes to row i from the rows that it goes on to.
-fn from_ways<K: FactKind>(kind: &K, facts: &[NodeSet], i: usize) -> NodeSet
-    ensures { let f = K.FactKind.flow kind.now in result ≡ gather f.join (at f facts.now) (enters f i) (slice_index_or f.next i []) }
+// What comes to row i from the rows handed out, one after another.
+fn gathered<K: FactKind, I: Iterator<Item = usize> + Drop>(
+    kind: &K,
+    facts: &[NodeSet],
+    rows: I,
+    i: usize,
+) -> NodeSet
+    requires can { I.can_next rows }
+    requires ends { IsFinite (I.remaining rows) }
+    ensures { let f = K.FactKind.flow kind.now in (js : List ℕ) × Drains I.next_gives rows js × (result ≡ gather f.join (at f facts.now) (enters f i) js) }
 {
     let mut all = entering(kind, i);
-    for j in kind.ways(i) {
+    for j in rows {
         let handed = fact_at(kind, facts, j);
         all = kind.join(all, handed);
-    }
-    all
-}
-
-// What comes to row i from the rows of a set, the lowest first.
-fn from_set<K: FactKind>(kind: &K, facts: &[NodeSet], set: NodeSet, i: usize) -> NodeSet
-    ensures { let f = K.FactKind.flow kind.now in result ≡ gather f.join (at f facts.now) (enters f i) (rising set) }
-{
-    let mut all = entering(kind, i);
-    for j in set {
-        let x = fact_at(kind, facts, j);
-        all = kind.join(all, x);
     }
     all
 }
@@ -93,11 +88,11 @@ pub fn incoming<K: FactKind>(kind: &K, facts: &[NodeSet], comers: &[NodeSet], i:
     let n = kind.rows();
     let held = &facts[..n.min(facts.len())];
     if kind.backward() {
-        return from_ways(kind, held, i);
+        return gathered(kind, held, kind.ways(i), i);
     }
     let told = &comers[..n.min(comers.len())];
     let set = told.get(i).copied().unwrap_or(NodeSet::EMPTY);
-    from_set(kind, held, set, i)
+    gathered(kind, held, set.into_iter(), i)
 }
 
 // Keeps for row i what it yields now, and says whether that alters anything.
