@@ -1,12 +1,11 @@
 -- The rows that come to a row, as a list and as a set that is walked from its lowest member on.
-use Rattle.std.proofs.Common.{◌≡◌, ℕ, zero, suc, ◌+◌, ◌-◌, ◌^◌, ◌<◌, ◌≤◌, Bool, true, false, ◌&&◌, ◌||◌, eqb, leb, List, [], ◌∷◌, ◌++◌, length, get_or, drop, sym, refl, ap, ◌∙◌, ap₂, inl, inr, pow-suc, map-id, arith}
-use Rattle.std.proofs.lemmas.List.{get_or_past, drop_more}
-use Rattle.std.proofs.lemmas.Bool.{cases_Bool, cases_lt, cases_eq, le-leb, lt-leb, eq-eqb, ne_eqb, and_parts, both_ways}
+use Rattle.std.proofs.Common.{◌≡◌, ℕ, zero, suc, ◌+◌, ◌-◌, ◌^◌, ◌<◌, ◌≤◌, Bool, true, false, ◌&&◌, ◌||◌, eqb, leb, List, [], ◌∷◌, ◌++◌, length, get_or, sym, refl, ap, ◌∙◌, ap₂, inl, inr, pow-suc, map-id, arith}
+use Rattle.std.proofs.lemmas.List.{get_or_past}
+use Rattle.std.proofs.lemmas.Bool.{cases_Bool, cases_lt, cases_eq, le-leb, lt-leb, eq-eqb, ne_eqb}
 use Rattle.std.specs.Iterator.{Drains, YieldsFirst}
 use Rattle.std.proofs.lemmas.Iterator.{items_from_drains}
 use Rattle.std.proofs.lemmas.Iterator.Consumers.{YieldsList-from_first}
-use Rattle.counting.specs.Counting.{least, range, down}
-use Rattle.counting.proofs.Searches.{least_le, least_below, least_found}
+use Rattle.counting.specs.Counting.{range, down}
 use Rattle.sets.specs.Sets.{has, single}
 use Rattle.sets.proofs.Members.{has_union, has_single, has_none, same_members}
 use Rattle.facts.specs.Flow.{Flow, rows, holds, holders, comers, turns, gather}

@@ -95,21 +95,6 @@ pub fn incoming<K: FactKind>(kind: &K, facts: &[NodeSet], comers: &[NodeSet], i:
     gathered(kind, held, set.into_iter(), i)
 }
 
-// Keeps for row i what it yields now, and says whether that alters anything.
-fn visit<K: FactKind>(kind: &K, facts: &mut [NodeSet], comers: &[NodeSet], i: usize) -> bool
-    requires rows { length facts.old ≡ rows_of (K.FactKind.flow kind.now) }
-    requires inside { i < length facts.old }
-    requires told { Tells (K.FactKind.flow kind.now) comers.now }
-    ensures yielded { let f = K.FactKind.flow kind.now in facts.new ≡ set facts.old i (yields f (feeders f) (at f facts.old) i) }
-    ensures fresh { let f = K.FactKind.flow kind.now in result ≡ not (yields f (feeders f) (at f facts.old) i == at f facts.old i) }
-{
-    let came = incoming(kind, facts, comers, i);
-    let new = kind.step(i, came);
-    let old = facts[i];
-    facts[i] = new;
-    new != old
-}
-
 // The row whose turn is the k-th.
 fn turn<K: FactKind>(kind: &K, k: usize) -> usize
     requires { k < rows_of (K.FactKind.flow kind.now) }
@@ -121,30 +106,53 @@ fn turn<K: FactKind>(kind: &K, k: usize) -> usize
     k
 }
 
-// Visits every row once, and says whether that altered anything.
-fn sweep<K: FactKind>(kind: &K, facts: &mut [NodeSet], comers: &[NodeSet]) -> bool
-    requires rows { length facts.old ≡ rows_of (K.FactKind.flow kind.now) }
-    requires told { Tells (K.FactKind.flow kind.now) comers.now }
-    ensures visited { let f = K.FactKind.flow kind.now in facts.new ≡ (swept f (feeders f) (turns f) facts.old false).kept }
-    ensures fresh { let f = K.FactKind.flow kind.now in result ≡ (swept f (feeders f) (turns f) facts.old false).altered }
-{
-    let mut altered = false;
-    for k in 0..facts.len() {
-        let i = turn(kind, k);
-        let fresh = visit(kind, facts, comers, i);
-        altered |= fresh;
-    }
-    altered
+// A kind whose equations are solved, and memory that holds the rows that come to each row.
+#[derive(Drop)]
+struct Solver<'a, K: FactKind> {
+    kind: &'a K,
+    comers: &'a [NodeSet],
+    ghost told: { Tells (K.FactKind.flow kind.now) comers.now },
 }
 
-// Sweeps from the least facts until nothing alters; what the memory held does not count.
-fn settle<K: FactKind>(kind: &K, facts: &mut [NodeSet], comers: &[NodeSet])
-    requires rows { length facts.old ≡ rows_of (K.FactKind.flow kind.now) }
-    requires told { Tells (K.FactKind.flow kind.now) comers.now }
-    ensures { facts.new ≡ solved (K.FactKind.flow kind.now) }
-{
-    facts.fill(kind.least());
-    while sweep(kind, facts, comers) {}
+impl<'a, K: FactKind> Solver<'a, K> {
+    // Keeps for row i what it yields now, and says whether that alters anything.
+    fn visit(&self, facts: &mut [NodeSet], i: usize) -> bool
+        requires rows { length facts.old ≡ rows_of (K.FactKind.flow self.now.kind.now) }
+        requires inside { i < length facts.old }
+        ensures yielded { let f = K.FactKind.flow self.now.kind.now in facts.new ≡ set facts.old i (yields f (feeders f) (at f facts.old) i) }
+        ensures fresh { let f = K.FactKind.flow self.now.kind.now in result ≡ not (yields f (feeders f) (at f facts.old) i == at f facts.old i) }
+    {
+        let came = incoming(self.kind, facts, self.comers, i);
+        let new = self.kind.step(i, came);
+        let old = facts[i];
+        facts[i] = new;
+        new != old
+    }
+
+    // Visits every row once, and says whether that altered anything.
+    fn sweep(&self, facts: &mut [NodeSet]) -> bool
+        requires { length facts.old ≡ rows_of (K.FactKind.flow self.now.kind.now) }
+        ensures visited { let f = K.FactKind.flow self.now.kind.now in facts.new ≡ (swept f (feeders f) (turns f) facts.old false).kept }
+        ensures fresh { let f = K.FactKind.flow self.now.kind.now in result ≡ (swept f (feeders f) (turns f) facts.old false).altered }
+    {
+        let mut altered = false;
+        // k counts turns; whether row k has the k-th depends on the direction.
+        for k in 0..facts.len() {
+            let i = turn(self.kind, k);
+            let fresh = self.visit(facts, i);
+            altered |= fresh;
+        }
+        altered
+    }
+
+    // Sweeps from the least facts until nothing alters; what the memory held does not count.
+    fn settle(&self, facts: &mut [NodeSet])
+        requires { length facts.old ≡ rows_of (K.FactKind.flow self.now.kind.now) }
+        ensures { facts.new ≡ solved (K.FactKind.flow self.now.kind.now) }
+    {
+        facts.fill(self.kind.least());
+        while self.sweep(facts) {}
+    }
 }
 
 // Adds j to the set at place i, if there is one.
@@ -174,6 +182,7 @@ fn list_all<K: FactKind>(kind: &K, sets: &mut [NodeSet])
     ensures { sets.new ≡ comer_sets (K.FactKind.flow kind.now).next }
 {
     clear(sets, sets.len());
+    // Row j is added to the sets of other rows, so this is no walk over the sets.
     for j in 0..sets.len() {
         list_ways(kind, sets, j);
     }
@@ -214,6 +223,7 @@ pub fn solve<K: FactKind>(
     }
     let n = kind.rows();
     list_comers(kind, comers);
-    settle(kind, &mut facts[..n], comers);
+    let solver = Solver { kind, comers };
+    solver.settle(&mut facts[..n]);
     Ok(())
 }
