@@ -70,9 +70,9 @@ fn build(lines: Lines, live: &[NodeSet], edges: &mut [NodeSet], hard: &mut [Node
     let kind = Liveness {
         graph: Graph { rows },
     };
-    for i in (0..rows.len()).rev() {
+    for (i, row) in rows.iter().enumerate().rev() {
         let after = incoming(&kind, live, &[], i);
-        connect(rows[i], after, edges, hard);
+        connect(*row, after, edges, hard);
     }
 }
 
