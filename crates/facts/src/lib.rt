@@ -155,7 +155,7 @@ impl<'a, K: FactKind> Solver<'a, K> {
     }
 }
 
-// Adds j to the set at place i, if there is one.
+// Adds j to the set at place i, if there is one. An index after a test, for `get_mut` tells nothing of what the slice ends as.
 pub fn list_one(sets: &mut [NodeSet], i: usize, j: usize)
     requires { j < 448 }
     ensures { Listing sets.old sets.new j (i ∷ []) }

@@ -24,6 +24,7 @@ fn join(edges: &mut [NodeSet], d: usize, others: NodeSet)
     for v in others {
         list_one(edges, v, d);
     }
+    // An index after a test, for `get_mut` tells nothing of what the slice ends as.
     if d < edges.len() {
         edges[d] = edges[d].union(others);
     }
