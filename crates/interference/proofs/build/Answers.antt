@@ -2,7 +2,7 @@ use Rattle.std.proofs.Common.{◌≡◌, length, [], ap, ◌∙◌, append-nil, 
 use Rattle.std.specs.Iterator.Adapters.{rev_source, enumerate_source, enumerate_count}
 use Rattle.std.specs.Slice.Iter.{iter_rest}
 use Rattle.std.proofs.lemmas.Bool.{true≢false}
-use Rattle.interference.proofs.Later.{later_none, later_all, leads_row, neighbours_none, neighbours_row, live_after_lem}
+use Rattle.interference.proofs.Later.{after, later_none, later_all, leads_row, neighbours_none, neighbours_row, live_after_lem}
 use Rattle.interference.proofs.build.Goals as goal
 
 pub loop-i-init : goal.loop-i-init
@@ -26,7 +26,7 @@ loop-i-preserved c =
     let (zero, leads, edges, hard) = c.loop-i.invariant in
     let (count, (last, number, bound)) = c.in-Some.ensures.steps in
     let i : c.in-Some.i ≡ length left = omega (arith, number, zero) in
-    let live = live_after_lem rows c.args.live.now (length left) c.incoming-after.result c.requires (rw i at c.incoming-after.ensures (λ e. absurd (true≢false e))) in (
+    let live = live_after_lem rows c.args.live.now c.in-Some.i c.incoming-after.result c.requires (c.incoming-after.ensures (λ e. absurd (true≢false e))) ∙ ap (after rows) i in (
       count ∙ zero,
       (leads_row rows _ left row last leads).0,
       neighbours_row (λ r. r.others) rows left row _ _ c.loop-i.edges c.connect.new.edges (ap length last) (rw last at leads) live c.connect.ensures.edges edges,
