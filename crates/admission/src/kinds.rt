@@ -55,6 +55,8 @@ pub struct Reach<'a> {
     pub graph: Graph<'a>,
 }
 
+// Each kind hands on the rows and ways of its graph. A type that did so once for all kinds would need a trait of its own for what
+// they differ in, and hand on each of the other five methods.
 impl<'a> FactKind for Reach<'a> {
     ghost flow = { λ k. reach k.graph.rows.now };
 

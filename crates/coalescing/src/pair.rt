@@ -73,6 +73,7 @@ impl Pair {
     }
 }
 
+// Past the last place nothing is put. An index after a test, for `get_mut` tells nothing of what the slice ends as.
 fn put(sets: &mut [NodeSet], v: usize, by: NodeSet)
     ensures { sets_of sets.new ≡ set (sets_of sets.old) v (members by) }
 {

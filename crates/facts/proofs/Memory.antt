@@ -1,6 +1,6 @@
 -- Lists of node sets as the lists of numbers that they stand for.
 use Rattle.std.proofs.Common.{◌≡◌, ℕ, zero, suc, ◌+◌, ◌<◌, ◌≤◌, min, Bool, true, false, ◌&&◌, ◌||◌, eqb, ltb, leb, List, [], ◌∷◌, ◌++◌, map, length, get_or, take, drop, set, replicate, sym, refl, ap, ◌∙◌, inl, inr, arith}
-use Rattle.std.proofs.lemmas.List.{get_or-map, get_or_past, get_or-replicate, get_or_append_left, get_or-set_same, get_or-set_other, length-map, length-replicate, length-append, length-drop, take_all, take_more, take_more_set, map_push, replicate_more, ext_get_or}
+use Rattle.std.proofs.lemmas.List.{get_or_past, get_or-replicate, get_or_append_left, get_or-set_same, get_or-set_other, length-replicate, length-append, length-drop, take_all, ext_get_or}
 use Rattle.std.proofs.lemmas.Bool.{cases_lt, cases_eq, eq-eqb, ne_eqb, lt-ltb, le-ltb, leb-true, and_parts, or_cases, both_ways}
 use Rattle.counting.specs.Counting.{range}
 use Rattle.sets.specs.Sets.{has, union, single, when}

@@ -1,9 +1,11 @@
 -- The rows that come to a row, as a list and as a set that is walked from its lowest member on.
-use Rattle.std.proofs.Common.{◌≡◌, ℕ, zero, suc, ◌+◌, ◌-◌, ◌^◌, ◌<◌, ◌≤◌, Bool, true, false, ◌&&◌, ◌||◌, eqb, leb, List, [], ◌∷◌, length, get_or, drop, sym, refl, ap, ◌∙◌, ap₂, inl, inr, pow-suc, arith}
-use Rattle.std.proofs.lemmas.List.{get_or_past, drop_more}
-use Rattle.std.proofs.lemmas.Bool.{cases_Bool, cases_lt, cases_eq, le-leb, lt-leb, eq-eqb, ne_eqb, and_parts, both_ways}
-use Rattle.counting.specs.Counting.{least, range, down}
-use Rattle.counting.proofs.Searches.{least_le, least_below, least_found}
+use Rattle.std.proofs.Common.{◌≡◌, ℕ, zero, suc, ◌+◌, ◌-◌, ◌^◌, ◌<◌, ◌≤◌, Bool, true, false, ◌&&◌, ◌||◌, eqb, leb, List, [], ◌∷◌, ◌++◌, length, get_or, sym, refl, ap, ◌∙◌, ap₂, inl, inr, pow-suc, map-id, arith}
+use Rattle.std.proofs.lemmas.List.{get_or_past}
+use Rattle.std.proofs.lemmas.Bool.{cases_Bool, cases_lt, cases_eq, le-leb, lt-leb, eq-eqb, ne_eqb}
+use Rattle.std.specs.Iterator.{Drains, YieldsFirst}
+use Rattle.std.proofs.lemmas.Iterator.{items_from_drains}
+use Rattle.std.proofs.lemmas.Iterator.Consumers.{YieldsList-from_first}
+use Rattle.counting.specs.Counting.{range, down}
 use Rattle.sets.specs.Sets.{has, single}
 use Rattle.sets.proofs.Members.{has_union, has_single, has_none, same_members}
 use Rattle.facts.specs.Flow.{Flow, rows, holds, holders, comers, turns, gather}
@@ -82,14 +84,17 @@ comers_passing next i x n l h =
     ∙ sym (passing_end (has x) (length next) (n - length next) 0 (λ k b. h k ∙ ap (λ (ks : List ℕ). holds ks i) (get_or_past next k [] (omega arith))))
     ∙ ap (λ (m : ℕ). passing (has x) m 0) e
 
--- one row more of a walk, and its end
-pub gather_next : (join : ℕ → ℕ → ℕ) (kept : ℕ → ℕ) (x y j : ℕ) (xs rest : List ℕ) → xs ≡ j ∷ rest → y ≡ join x (kept j) → gather join kept y rest ≡ gather join kept x xs
+-- one row more of a walk
+pub gather_more : (join : ℕ → ℕ → ℕ) (kept : ℕ → ℕ) (x : ℕ) (js : List ℕ) (j : ℕ) → gather join kept x (js ++ j ∷ []) ≡ join (gather join kept x js) (kept j)
 unfolding gather
-gather_next join kept x y j xs rest e f = rw (e, f)
+gather_more join kept x [] j = refl
+gather_more join kept x (i ∷ js) j = gather_more join kept (join x (kept i)) js j
 
-pub gather_last : (join : ℕ → ℕ → ℕ) (kept : ℕ → ℕ) (x : ℕ) (xs : List ℕ) → xs ≡ [] → gather join kept x xs ≡ x
-unfolding gather
-gather_last join kept x xs e = rw e
+-- an iterator that hands out the first of what is left hands out all of it
+pub gather_drained : {S : Type 0} (rest : S → List ℕ) (s : S) (all : List ℕ) (join : ℕ → ℕ → ℕ) (kept : ℕ → ℕ) (x y : ℕ) →
+    rest s ≡ all → (js : List ℕ) × Drains (YieldsFirst rest) s js × (y ≡ gather join kept x js) → y ≡ gather join kept x all
+gather_drained rest s all join kept x y e (js, (u, (t, run, end)), h) =
+    h ∙ ap (gather join kept x) (sym (map-id js) ∙ items_from_drains {steps = YieldsFirst rest} {v = λ i. i} {s = s} {all = all} js (t, run, λ _. (u, end)) (YieldsList-from_first (λ i. i) rest all e))
 
 range_at : (n j k : ℕ) → k < n → get_or (range n j) k 0 ≡ j + k
 unfolding range

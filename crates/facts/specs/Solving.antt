@@ -1,5 +1,5 @@
 -- What solving leaves in the memory lent to it.
-use Rattle.std.specs.Prelude.{◌≡◌, ℕ, zero, suc, ◌<◌, ◌≤◌, Bool, true, false, cond, ◌&&◌, ◌||◌, List, [], ◌∷◌, map, length, take, drop, ◌==◌, nat_le, slice_index_or}
+use Rattle.std.specs.Prelude.{◌≡◌, ℕ, ◌<◌, ◌≤◌, Bool, true, false, ◌&&◌, ◌||◌, List, [], ◌∷◌, map, length, take, drop, ◌==◌, nat_le, slice_index_or}
 use Rattle.counting.specs.Counting.{range}
 use Rattle.sets.specs.Sets.{has, union, single}
 use Rattle.facts.specs.Flow.{Flow, rows, holds, comers, solved, at, Least}

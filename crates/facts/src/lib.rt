@@ -1,7 +1,7 @@
 #![tactic(auto)]
 
-ghost use Rattle.std.specs.Prelude.{◌≡◌, ℕ, ◌<◌, ◌≤◌, true, false, not, [], ◌∷◌, length, take, drop, set, is_ok, ◌==◌, slice_index, slice_index_or};
-ghost use Rattle.sets.specs.Rising.{rising};
+ghost use Rattle.std.specs.Prelude.{◌≡◌, ℕ, ◌<◌, ◌≤◌, true, false, not, List, [], ◌∷◌, length, take, drop, set, is_ok, ◌==◌, slice_index, slice_index_or};
+ghost use Rattle.std.specs.Iterator.{Drains, IsFinite};
 ghost use Rattle.rows.specs.Rows.{rows_left};
 ghost use Rattle.facts.specs.Flow.{Flow, Lawful, rows as rows_of, feeders, turns, enters, at, gather, incoming as incoming_of, yields, sweep as swept, solved};
 ghost use Rattle.facts.specs.Solving.{Listing, comer_sets, suffices, Tells, Answers};
@@ -62,26 +62,21 @@ fn fact_at<K: FactKind>(kind: &K, facts: &[NodeSet], j: usize) -> NodeSet
     facts.get(j).copied().unwrap_or_else(|| kind.least())
 }
 
-// What comes to row i from the rows that it goes on to.
-fn from_ways<K: FactKind>(kind: &K, facts: &[NodeSet], i: usize) -> NodeSet
-    ensures { let f = K.FactKind.flow kind.now in result ≡ gather f.join (at f facts.now) (enters f i) (slice_index_or f.next i []) }
+// What comes to row i from the rows handed out, one after another.
+fn gathered<K: FactKind, I: Iterator<Item = usize> + Drop>(
+    kind: &K,
+    facts: &[NodeSet],
+    rows: I,
+    i: usize,
+) -> NodeSet
+    requires can { I.can_next rows }
+    requires ends { IsFinite (I.remaining rows) }
+    ensures { let f = K.FactKind.flow kind.now in (js : List ℕ) × Drains I.next_gives rows js × (result ≡ gather f.join (at f facts.now) (enters f i) js) }
 {
     let mut all = entering(kind, i);
-    for j in kind.ways(i) {
+    for j in rows {
         let handed = fact_at(kind, facts, j);
         all = kind.join(all, handed);
-    }
-    all
-}
-
-// What comes to row i from the rows of a set, the lowest first.
-fn from_set<K: FactKind>(kind: &K, facts: &[NodeSet], set: NodeSet, i: usize) -> NodeSet
-    ensures { let f = K.FactKind.flow kind.now in result ≡ gather f.join (at f facts.now) (enters f i) (rising set) }
-{
-    let mut all = entering(kind, i);
-    for j in set {
-        let x = fact_at(kind, facts, j);
-        all = kind.join(all, x);
     }
     all
 }
@@ -93,26 +88,11 @@ pub fn incoming<K: FactKind>(kind: &K, facts: &[NodeSet], comers: &[NodeSet], i:
     let n = kind.rows();
     let held = &facts[..n.min(facts.len())];
     if kind.backward() {
-        return from_ways(kind, held, i);
+        return gathered(kind, held, kind.ways(i), i);
     }
     let told = &comers[..n.min(comers.len())];
     let set = told.get(i).copied().unwrap_or(NodeSet::EMPTY);
-    from_set(kind, held, set, i)
-}
-
-// Keeps for row i what it yields now, and says whether that alters anything.
-fn visit<K: FactKind>(kind: &K, facts: &mut [NodeSet], comers: &[NodeSet], i: usize) -> bool
-    requires rows { length facts.old ≡ rows_of (K.FactKind.flow kind.now) }
-    requires inside { i < length facts.old }
-    requires told { Tells (K.FactKind.flow kind.now) comers.now }
-    ensures yielded { let f = K.FactKind.flow kind.now in facts.new ≡ set facts.old i (yields f (feeders f) (at f facts.old) i) }
-    ensures fresh { let f = K.FactKind.flow kind.now in result ≡ not (yields f (feeders f) (at f facts.old) i == at f facts.old i) }
-{
-    let came = incoming(kind, facts, comers, i);
-    let new = kind.step(i, came);
-    let old = facts[i];
-    facts[i] = new;
-    new != old
+    gathered(kind, held, set.into_iter(), i)
 }
 
 // The row whose turn is the k-th.
@@ -126,33 +106,56 @@ fn turn<K: FactKind>(kind: &K, k: usize) -> usize
     k
 }
 
-// Visits every row once, and says whether that altered anything.
-fn sweep<K: FactKind>(kind: &K, facts: &mut [NodeSet], comers: &[NodeSet]) -> bool
-    requires rows { length facts.old ≡ rows_of (K.FactKind.flow kind.now) }
-    requires told { Tells (K.FactKind.flow kind.now) comers.now }
-    ensures visited { let f = K.FactKind.flow kind.now in facts.new ≡ (swept f (feeders f) (turns f) facts.old false).kept }
-    ensures fresh { let f = K.FactKind.flow kind.now in result ≡ (swept f (feeders f) (turns f) facts.old false).altered }
-{
-    let mut altered = false;
-    for k in 0..facts.len() {
-        let i = turn(kind, k);
-        let fresh = visit(kind, facts, comers, i);
-        altered |= fresh;
+// A kind whose equations are solved, and memory that holds the rows that come to each row.
+#[derive(Drop)]
+struct Solver<'a, K: FactKind> {
+    kind: &'a K,
+    comers: &'a [NodeSet],
+    ghost told: { Tells (K.FactKind.flow kind.now) comers.now },
+}
+
+impl<'a, K: FactKind> Solver<'a, K> {
+    // Keeps for row i what it yields now, and says whether that alters anything.
+    fn visit(&self, facts: &mut [NodeSet], i: usize) -> bool
+        requires rows { length facts.old ≡ rows_of (K.FactKind.flow self.now.kind.now) }
+        requires inside { i < length facts.old }
+        ensures yielded { let f = K.FactKind.flow self.now.kind.now in facts.new ≡ set facts.old i (yields f (feeders f) (at f facts.old) i) }
+        ensures fresh { let f = K.FactKind.flow self.now.kind.now in result ≡ not (yields f (feeders f) (at f facts.old) i == at f facts.old i) }
+    {
+        let came = incoming(self.kind, facts, self.comers, i);
+        let new = self.kind.step(i, came);
+        let old = facts[i];
+        facts[i] = new;
+        new != old
     }
-    altered
+
+    // Visits every row once, and says whether that altered anything.
+    fn sweep(&self, facts: &mut [NodeSet]) -> bool
+        requires { length facts.old ≡ rows_of (K.FactKind.flow self.now.kind.now) }
+        ensures visited { let f = K.FactKind.flow self.now.kind.now in facts.new ≡ (swept f (feeders f) (turns f) facts.old false).kept }
+        ensures fresh { let f = K.FactKind.flow self.now.kind.now in result ≡ (swept f (feeders f) (turns f) facts.old false).altered }
+    {
+        let mut altered = false;
+        // k counts turns; whether row k has the k-th depends on the direction.
+        for k in 0..facts.len() {
+            let i = turn(self.kind, k);
+            let fresh = self.visit(facts, i);
+            altered |= fresh;
+        }
+        altered
+    }
+
+    // Sweeps from the least facts until nothing alters; what the memory held does not count.
+    fn settle(&self, facts: &mut [NodeSet])
+        requires { length facts.old ≡ rows_of (K.FactKind.flow self.now.kind.now) }
+        ensures { facts.new ≡ solved (K.FactKind.flow self.now.kind.now) }
+    {
+        facts.fill(self.kind.least());
+        while self.sweep(facts) {}
+    }
 }
 
-// Sweeps from the least facts until nothing alters; what the memory held does not count.
-fn settle<K: FactKind>(kind: &K, facts: &mut [NodeSet], comers: &[NodeSet])
-    requires rows { length facts.old ≡ rows_of (K.FactKind.flow kind.now) }
-    requires told { Tells (K.FactKind.flow kind.now) comers.now }
-    ensures { facts.new ≡ solved (K.FactKind.flow kind.now) }
-{
-    facts.fill(kind.least());
-    while sweep(kind, facts, comers) {}
-}
-
-// Adds j to the set at place i, if there is one.
+// Adds j to the set at place i, if there is one. An index after a test, for `get_mut` tells nothing of what the slice ends as.
 pub fn list_one(sets: &mut [NodeSet], i: usize, j: usize)
     requires { j < 448 }
     ensures { Listing sets.old sets.new j (i ∷ []) }
@@ -179,6 +182,7 @@ fn list_all<K: FactKind>(kind: &K, sets: &mut [NodeSet])
     ensures { sets.new ≡ comer_sets (K.FactKind.flow kind.now).next }
 {
     clear(sets, sets.len());
+    // Row j is added to the sets of other rows, so this is no walk over the sets.
     for j in 0..sets.len() {
         list_ways(kind, sets, j);
     }
@@ -219,6 +223,7 @@ pub fn solve<K: FactKind>(
     }
     let n = kind.rows();
     list_comers(kind, comers);
-    settle(kind, &mut facts[..n], comers);
+    let solver = Solver { kind, comers };
+    solver.settle(&mut facts[..n]);
     Ok(())
 }

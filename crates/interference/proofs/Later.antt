@@ -1,6 +1,7 @@
 -- The reasons of the rows from one on, and the neighbours that they give.
-use Rattle.std.proofs.Common.{◌≡◌, ℕ, suc, ◌+◌, ◌-◌, ◌<◌, ◌≤◌, Bool, true, false, cond, ◌&&◌, eqb, leb, List, [], ◌∷◌, ◌++◌, map, length, get_or, take, drop, sym, refl, ap, ◌∙◌, ap₂, arith}
-use Rattle.std.proofs.lemmas.List.{drop_more, drop_all}
+use Rattle.std.proofs.Common.{◌≡◌, ℕ, suc, ◌+◌, ◌-◌, ◌<◌, ◌≤◌, Bool, true, false, cond, ◌&&◌, eqb, leb, List, [], ◌∷◌, ◌++◌, map, length, get_or, take, drop, sym, refl, ap, ◌∙◌, ap₂, append_assoc, length-append, arith}
+use Rattle.std.proofs.lemmas.List.{drop_more, drop_all, length_push}
+use Rattle.std.proofs.Math.Seq.{get_or-append_seam}
 use Rattle.counting.specs.Counting.{range}
 use Rattle.sets.specs.Sets.{has, single, union, when}
 use Rattle.sets.specs.Words.{cleared}
@@ -77,10 +78,24 @@ later_more rows i j e l =
     let s : suc j ≡ i = omega arith in
     rw (drop_more rows j end_row l, n, e, s)
 
+-- the rows still to be gone through are the first of all
+abbrev pub Leads : (left rows : List Row) → Type 0
+Leads left rows = (gone : List Row) × (left ++ gone ≡ rows)
+
+-- the last of them is gone through next
+pub leads_row : (rows was left : List Row) (row : Row) → was ≡ left ++ row ∷ [] → Leads was rows → Leads left rows × (row ≡ row_at rows (length left))
+leads_row rows was left row e (gone, is) =
+    let all : left ++ row ∷ gone ≡ rows = sym (append_assoc left (row ∷ []) gone) ∙ ap (λ (xs : List Row). xs ++ gone) (sym e) ∙ is in
+    ((row ∷ gone, all), sym (get_or-append_seam left row gone end_row) ∙ ap (λ (xs : List Row). get_or xs (length left) end_row) all)
+
 -- a row more, the rows being gone through from the last to the first
-pub neighbours_row : (side : Reason → ℕ) (rows : List Row) (i j live : ℕ) (was now : List ℕ) → j + 1 ≡ i → j < length rows → live ≡ after rows j →
-    ((rs : List Reason) → Neighbours side rs was → Neighbours side (map (reason (row_at rows j) live) (writes (row_at rows j)) ++ rs) now) → Neighbours side (later rows i) was → Neighbours side (later rows j) now
-neighbours_row side rows i j live was now e l is h was-so = rw (later_more rows i j e l, ← is) (h (later rows i) was-so)
+pub neighbours_row : (side : Reason → ℕ) (rows left : List Row) (row : Row) (i live : ℕ) (was now : List ℕ) → i ≡ length (left ++ row ∷ []) → Leads (left ++ row ∷ []) rows → live ≡ after rows (length left) →
+    ((rs : List Reason) → Neighbours side rs was → Neighbours side (map (reason row live) (writes row) ++ rs) now) → Neighbours side (later rows i) was → Neighbours side (later rows (length left)) now
+neighbours_row side rows left row i live was now e leads is h was-so =
+    let n : length left + 1 ≡ i = sym (e ∙ length_push left row) in
+    let long = ap length leads.1 in
+    let lt : length left < length rows = omega (arith, n, e, long, length-append (left ++ row ∷ []) leads.0) in
+    rw (later_more rows i (length left) n lt, ← is, ← (leads_row rows (left ++ row ∷ []) left row refl leads).1) (h (later rows i) was-so)
 
 pub later_all : (rows : List Row) (i : ℕ) → i ≡ 0 → later rows i ≡ reasons rows (live_after rows)
 unfolding later live_after

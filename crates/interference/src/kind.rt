@@ -12,6 +12,8 @@ pub struct Liveness<'a> {
     pub graph: Graph<'a>,
 }
 
+// Its rows and ways are handed on from the graph, as by the kinds of admission. Reach joins alike, but has another entry, step and
+// direction: a type for both would be longer than the two methods that they share.
 impl<'a> FactKind for Liveness<'a> {
     ghost flow = { λ k. liveness k.graph.rows.now };
 

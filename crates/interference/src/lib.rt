@@ -24,6 +24,7 @@ fn join(edges: &mut [NodeSet], d: usize, others: NodeSet)
     for v in others {
         list_one(edges, v, d);
     }
+    // An index after a test, for `get_mut` tells nothing of what the slice ends as.
     if d < edges.len() {
         edges[d] = edges[d].union(others);
     }
@@ -70,9 +71,9 @@ fn build(lines: Lines, live: &[NodeSet], edges: &mut [NodeSet], hard: &mut [Node
     let kind = Liveness {
         graph: Graph { rows },
     };
-    for i in (0..rows.len()).rev() {
+    for (i, row) in rows.iter().enumerate().rev() {
         let after = incoming(&kind, live, &[], i);
-        connect(rows[i], after, edges, hard);
+        connect(*row, after, edges, hard);
     }
 }
 

@@ -1,4 +1,4 @@
-use Rattle.std.proofs.Common.{◌≡◌, ℕ, ◌≤◌, true, false, not, eqb, length, is_ok, sym, refl, ap, ◌∙◌, arith, below_more}
+use Rattle.std.proofs.Common.{ℕ, ◌≤◌, true, false, not, eqb, length, is_ok, sym, refl, ap, ◌∙◌, arith, below_more}
 use Rattle.sets.specs.Sets.{minus}
 use Rattle.facts.specs.Flow.{rows as rows_of}
 use Rattle.admission.specs.Kinds.{initialisation, sure}

@@ -1,4 +1,4 @@
-use Rattle.std.proofs.Common.{◌≡◌, List, ℕ, [], ◌++◌, get_or}
+use Rattle.std.proofs.Common.{◌≡◌, [], ◌++◌, get_or}
 use Rattle.rows.specs.Rows.{rows_left}
 use Rattle.facts.specs.Solving.{Listing}
 use Rattle.facts.proofs.list_ways.Given as goal

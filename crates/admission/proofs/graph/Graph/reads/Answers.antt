@@ -1,4 +1,4 @@
-use Rattle.std.proofs.Common.{◌<◌, ◌≤◌, length, ltb, sym, ap, ◌∙◌, inl, inr}
+use Rattle.std.proofs.Common.{◌≤◌, length, ltb, sym, ap, ◌∙◌, inl, inr}
 use Rattle.std.proofs.lemmas.List.{get_or_past}
 use Rattle.std.proofs.lemmas.Bool.{cases_lt, lt-ltb, both_ways}
 use Rattle.rows.specs.declared.Row.{Row}

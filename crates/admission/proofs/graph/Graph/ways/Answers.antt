@@ -1,9 +1,7 @@
-use Rattle.std.proofs.Common.{◌≡◌, ◌<◌, ◌≤◌, [], length, get_or, ltb, sym, ap, ◌∙◌, inl, inr, rules}
-use Rattle.std.proofs.lemmas.List.{get_or_past}
+use Rattle.std.proofs.Common.{◌≡◌, ◌<◌, ◌≤◌, length, get_or, ltb, sym, ap, ◌∙◌, inl, inr, rules}
 use Rattle.std.proofs.lemmas.Bool.{cases_lt, lt-ltb, le-ltb, both_ways}
 use Rattle.rows.specs.declared.Row.{Row}
 use Rattle.rows.specs.Rows.{next, end_row}
-use Rattle.admission.specs.Kinds.{nexts}
 use Rattle.admission.proofs.Ways.{nexts_at, nexts_past}
 use Rattle.admission.proofs.graph.Graph.ways.Goals as goal
 

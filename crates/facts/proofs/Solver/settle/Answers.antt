@@ -1,18 +1,18 @@
 use Rattle.std.proofs.Common.{◌≡◌, ℕ, true, false, replicate, sym, ap, ap₂, ◌∙◌, subst, arith, rules}
-use Rattle.facts.specs.Flow.{rows, feeders, turns, sweep, solved}
+use Rattle.facts.specs.Flow.{feeders, turns, sweep, solved}
 use Rattle.facts.proofs.Sweeping.{Going, going_start, going_more, going_end, total, total_capped}
-use Rattle.facts.proofs.settle.Goals as goal
+use Rattle.facts.proofs.Solver.settle.Goals as goal
 
 pub loop-init : goal.loop-init
 loop-init g c =
-    let k = c.args.kind.now in
+    let k = c.args.self.now.kind.now in
     let f = g.K.FactKind.flow k in
-    let e = c.fill.ensures.after (search rules) ∙ ap₂ (λ (n x : ℕ). replicate n x) c.requires.rows c.least.ensures in
+    let e = c.fill.ensures.after (search rules) ∙ ap₂ (λ (n x : ℕ). replicate n x) c.requires c.least.ensures in
     subst (Going f (g.K.FactKind.lawful k) (feeders f) (solved f)) (sym e) (going_start f (g.K.FactKind.lawful k))
 
 pub loop-smaller : goal.loop-smaller
 loop-smaller g c =
-    let k = c.args.kind.now in
+    let k = c.args.self.now.kind.now in
     let f = g.K.FactKind.flow k in
     let laws = g.K.FactKind.lawful k in
     let a : (sweep f (feeders f) (turns f) c.loop.facts false).altered ≡ true = sym c.sweep.ensures.fresh ∙ c.loop-test.true in
@@ -24,7 +24,7 @@ loop-smaller g c =
 
 pub loop-preserved : goal.loop-preserved
 loop-preserved g c =
-    let k = c.args.kind.now in
+    let k = c.args.self.now.kind.now in
     let f = g.K.FactKind.flow k in
     let laws = g.K.FactKind.lawful k in
     let a : (sweep f (feeders f) (turns f) c.loop.facts false).altered ≡ true = sym c.sweep.ensures.fresh ∙ c.loop-test.true in
@@ -32,7 +32,7 @@ loop-preserved g c =
 
 pub returns : goal.returns
 returns g c =
-    let k = c.args.kind.now in
+    let k = c.args.self.now.kind.now in
     let f = g.K.FactKind.flow k in
     let a : (sweep f (feeders f) (turns f) c.loop.facts false).altered ≡ false = sym c.sweep.ensures.fresh ∙ c.loop-test.false in
     c.sweep.ensures.visited ∙ going_end f (g.K.FactKind.lawful k) (feeders f) (solved f) c.loop.facts c.loop.invariant a
