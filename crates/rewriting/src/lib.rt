@@ -20,7 +20,7 @@ use compiling::{Home, Place};
 use drafts::draft::Draft;
 use drafts::token::{Colouring, Token};
 use layout::blocks::Layout;
-use layout::few::Few;
+use lists::Few;
 use page::Page;
 use rows::Row;
 use sets::NodeSet;
@@ -161,7 +161,7 @@ impl<'a> Rewriting<'a> {
         Page {
             layout: Layout::new(),
             next: self.draft.nodes as u16,
-            classes: Few::front(self.draft.classes, self.draft.nodes),
+            classes: Few::of(&self.draft.classes[..self.draft.nodes]),
         }
     }
 
