@@ -2,7 +2,7 @@
 
 pub mod blocks;
 
-ghost use Rattle.std.specs.Prelude.{◌≡◌, [], ◌∷◌, ◌++◌, map, length, take, slice_index};
+ghost use Rattle.std.specs.Prelude.{◌≡◌, ◌≤◌, [], ◌∷◌, ◌++◌, map, length, take, slice_index};
 ghost use Rattle.compiling.specs.Blocks.{moved as moved_by};
 
 use blocks::Layout;
@@ -38,7 +38,8 @@ impl Layout {
 
     // The rows with their targets moved to the starts of blocks.
     pub fn moved(&self) -> Few<Row, 512>
-        ensures { result ≡ map (moved_by self.now.starts) self.now.rows }
+        ensures rows { result ≡ map (moved_by self.now.starts) self.now.rows }
+        ensures fits { length result ≤ 512 }
     {
         let mut moved = Few::new();
         for row in self.rows.as_slice() {

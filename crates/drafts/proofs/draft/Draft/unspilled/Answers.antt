@@ -18,7 +18,7 @@ loop-v-preserved c =
     let t : ℕ → Bool = λ v. not (spilled (working_of d).places v) in
     elim c.if-not-is_spilled.branch [
       | then-not-is_spilled w ↦
-          those_with t c.loop-v.v (members c.loop-v.set) (members c.if-not-is_spilled.set) c.loop-v.invariant (ap not (sym c.is_spilled.ensures ∙ w.if-not-is_spilled.true)) (omega (arith, d.few)) (ap members w.set-is ∙ w.with-set.ensures)
+          those_with t c.loop-v.v (members c.loop-v.set) (members c.if-not-is_spilled.set) c.loop-v.invariant (ap not (sym c.is_spilled.ensures ∙ w.if-not-is_spilled.true)) (omega arith) (ap members w.set-is ∙ w.with-set.ensures)
       | else-not-is_spilled w ↦
           those_same t c.loop-v.v (members c.loop-v.set) (members c.if-not-is_spilled.set) c.loop-v.invariant (ap not (sym c.is_spilled.ensures ∙ w.if-not-is_spilled.false)) (ap members w.set-is)
     ]
@@ -27,6 +27,5 @@ pub returns : goal.returns
 unfolding unspilled
 returns c =
     let d = c.args.self.now in
-    let few : d.nodes ≤ length d.classes = omega (arith, d.few, d.whole) in
-    let n : c.loop-v.v ≡ length (take d.nodes d.classes) = simp length-take-le (omega arith) in
+    let n : c.loop-v.v ≡ length d.classes = omega arith in
     c.loop-v.invariant ∙ ap (those (λ v. not (spilled (working_of d).places v))) n

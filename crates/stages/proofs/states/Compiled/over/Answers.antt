@@ -12,4 +12,4 @@ pub invariant_of-result : goal.invariant_of-result
 unfolding first
 invariant_of-result c =
     let P : Compiled → Type 0 = λ x. ∥ Playable x ∥₁ in
-    record { playable = subst P (sym (ap first c.new.ensures.fresh)) ∣ end_plays ∣₁ }
+    record { playable = subst P (sym (ap first c.new-draft.ensures.fresh)) ∣ end_plays ∣₁ }
