@@ -1,5 +1,5 @@
 -- Registers and places by what a draft and the end of its round hold.
-use Rattle.std.specs.Prelude.{ℕ, cond, Some, None, Option, List, length, take, slice_index, slice_index_or}
+use Rattle.std.specs.Prelude.{ℕ, cond, Some, None, Option, length, take, slice_index, slice_index_or}
 use Rattle.sets.specs.Sets.{has}
 use Rattle.sets.specs.Words.{members}
 use Rattle.compiling.specs.declared.Home.TheVariants.{Register}

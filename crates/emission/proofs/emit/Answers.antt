@@ -1,4 +1,4 @@
-use Rattle.std.proofs.Common.{◌≡◌, ◌≤◌, map, length, take, ap, ◌∙◌, arith, length-take}
+use Rattle.std.proofs.Common.{◌≡◌, ◌≤◌, map, length, arith}
 use lib.ListN.{length-map}
 use Rattle.compiling.specs.Blocks.{flat, assembled}
 use Rattle.compiling.specs.Emit.{code_block}

@@ -1,4 +1,4 @@
-use Rattle.std.proofs.Common.{◌≡◌, ℕ, ◌<◌, true, false, length, take, sym, ap, ◌∙◌, arith}
+use Rattle.std.proofs.Common.{◌≡◌, ◌<◌, true, false, length, take, sym, ap, ◌∙◌, arith}
 use Rattle.sets.specs.Words.{members}
 use Rattle.rounds.specs.Round.{Outcome}
 use Rattle.compiling.specs.Working.{round_of}

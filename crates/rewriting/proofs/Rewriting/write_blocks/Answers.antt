@@ -1,5 +1,5 @@
 use Rattle.std.proofs.Common.{◌≡◌, ℕ, ◌+◌, ◌<◌, ◌≤◌, List, [], ◌∷◌, ◌++◌, map, length, get_or, take, sym, ap, ◌∙◌, arith}
-use Rattle.std.proofs.lemmas.List.{append_assoc, length-append, length-take-le, map-append, take_all, take_more, get_or_default}
+use Rattle.std.proofs.lemmas.List.{append_assoc, length-append, map-append, take_all, take_more, get_or_default}
 use Rattle.rows.specs.Rows.{end_row}
 use Rattle.compiling.specs.Blocks.{flat}
 use Rattle.compiling.specs.Rewrite.{block, blocks, replaced, all_replaced}

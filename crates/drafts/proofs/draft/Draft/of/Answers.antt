@@ -1,6 +1,5 @@
-use Rattle.std.proofs.Common.{◌≡◌, List, take, replicate, ◌∙◌, arith, length-take}
+use Rattle.std.proofs.Common.{take, replicate, arith, length-take}
 use Rattle.std.proofs.lemmas.List.{take-replicate, take_all}
-use Rattle.rows.specs.declared.Row.{Row}
 use Rattle.compiling.specs.Working.{no_place}
 use Rattle.drafts.proofs.draft.Draft.of.Goals as goal
 

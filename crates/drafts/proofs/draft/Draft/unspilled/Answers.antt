@@ -1,6 +1,5 @@
-use Rattle.std.proofs.Common.{◌≡◌, ℕ, ◌≤◌, Bool, not, length, take, sym, refl, ap, ◌∙◌, arith}
+use Rattle.std.proofs.Common.{◌≡◌, ℕ, Bool, not, length, sym, refl, ap, ◌∙◌, arith}
 use Rattle.sets.specs.Words.{joined, members}
-use Rattle.std.proofs.lemmas.List.{length-take-le}
 use Rattle.rounds.specs.Round.{those}
 use Rattle.compiling.specs.Working.{unspilled, spilled}
 use Rattle.drafts.specs.Drafts.{working_of}

@@ -1,6 +1,6 @@
-use Rattle.std.proofs.Common.{◌≡◌, sym, ap, subst}
+use Rattle.std.proofs.Common.{sym, ap, subst}
 use Rattle.compiling.specs.Working.{Working, Compiled}
-use Rattle.histories.specs.Histories.{Playable, end_code}
+use Rattle.histories.specs.Histories.{Playable}
 use Rattle.stages.proofs.Ending.{end_plays}
 use Rattle.stages.proofs.states.Compiled.over.Goals as goal
 
