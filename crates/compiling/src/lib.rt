@@ -3,6 +3,8 @@
 ghost use Rattle.std.specs.Prelude.{◌≡◌};
 ghost use Rattle.compiling.specs.Working.{no_place, is_slot as is_slot_of, number_of};
 
+use lists::Blank;
+
 // Where a variable stands: nowhere as long as no round has placed it, else in a register or a slot, each with its number.
 #[derive(Clone, Copy, PartialEq, Eq)]
 pub enum Home {
@@ -29,6 +31,16 @@ pub struct Place {
     pub home: Home,
     pub round: u8,
     pub hoped: bool,
+}
+
+impl Blank for Place {
+    ghost use Rattle.compiling.specs.Working.{no_place};
+
+    ghost blank_value = { no_place };
+
+    fn blank() -> Place {
+        Place::OPEN
+    }
 }
 
 impl Place {

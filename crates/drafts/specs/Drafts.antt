@@ -19,32 +19,32 @@ use Rattle.drafts.specs.declared.token.Token.{Token}
 abbrev pub working_of : Draft → Working
 working_of d = record {
   source = program_of d.source;
-  rows = take d.count d.rows;
-  classes = take d.nodes d.classes;
+  rows = d.rows;
+  classes = d.classes;
   rounds = d.rounds;
   slots = d.slots;
-  places = take d.source.vars d.places;
+  places = d.places;
 }
 
 -- the coloured program in a draft
 abbrev pub coloured_of : Draft → Coloured
 coloured_of d = record {
   source = program_of d.source;
-  rows = take d.count d.rows;
-  registers = take d.nodes d.registers;
+  rows = d.rows;
+  registers = d.registers;
   rounds = d.rounds;
   slots = d.slots;
-  places = take d.source.vars d.places;
+  places = d.places;
 }
 
 -- the compiled program in a draft
 abbrev pub compiled_of : Draft → Compiled
 compiled_of d = record {
   source = program_of d.source;
-  rows = take d.count d.rows;
+  rows = d.rows;
   rounds = d.rounds;
   slots = d.slots;
-  places = take d.source.vars d.places;
+  places = d.places;
 }
 
 -- the end of a round of n variables shows an outcome

@@ -3,7 +3,7 @@
 pub mod draft;
 pub mod token;
 
-ghost use Rattle.std.specs.Prelude.{◌≡◌, ◌≤◌, take, slice_index, slice_index_or};
+ghost use Rattle.std.specs.Prelude.{◌≡◌, take, slice_index, slice_index_or};
 ghost use Rattle.sets.specs.Words.{members};
 ghost use Rattle.source.specs.Results.{program_of};
 ghost use Rattle.compiling.specs.Working.{admitted, place_of as place_in, spilled, unspilled as unspilled_of};
@@ -11,6 +11,7 @@ ghost use Rattle.drafts.specs.Drafts.{working_of, coloured_of};
 
 use compiling::Place;
 use draft::Draft;
+use lists::Few;
 use rows::Row;
 use sets::NodeSet;
 use source::program::Source;
@@ -23,14 +24,12 @@ impl Draft {
     {
         Draft {
             source,
-            count: source.count,
-            rows: extended(&source.rows, Row::END),
-            nodes: source.vars,
-            classes: extended(&source.classes, 0),
-            registers: [0; 448],
+            rows: Few::of(&source.rows[..source.count]),
+            classes: Few::of(&source.classes[..source.vars]),
+            registers: Few::new(),
             rounds: 0,
             slots: 0,
-            places: [Place::OPEN; 64],
+            places: Few::of(&[Place::OPEN; 64][..source.vars]),
         }
     }
 
@@ -38,28 +37,29 @@ impl Draft {
     pub fn rows(&self) -> &[Row]
         ensures { result.now ≡ (working_of self.now).rows }
     {
-        &self.rows[..self.count]
+        self.rows.as_slice()
     }
 
     // The class of variable v, or 0 past the last.
     pub fn class_of(&self, v: usize) -> u8
         ensures { result ≡ slice_index (working_of self.now).classes v }
     {
-        self.classes[..self.nodes].get(v).copied().unwrap_or(0)
+        self.classes.as_slice().get(v).copied().unwrap_or(0)
     }
 
     // The register of variable v of a coloured program, or 0 past the last.
     pub fn register_of(&self, v: usize) -> u8
         ensures { result ≡ slice_index (coloured_of self.now).registers v }
     {
-        self.registers[..self.nodes].get(v).copied().unwrap_or(0)
+        self.registers.as_slice().get(v).copied().unwrap_or(0)
     }
 
     // The place of variable v. Past those of the source, no round has placed it.
     pub fn place_of(&self, v: usize) -> Place
         ensures { result ≡ place_in (working_of self.now).places v }
     {
-        self.places[..self.source.vars]
+        self.places
+            .as_slice()
             .get(v)
             .copied()
             .unwrap_or(Place::OPEN)
@@ -77,7 +77,7 @@ impl Draft {
         ensures { members result ≡ unspilled_of (working_of self.now) }
     {
         let mut set = NodeSet::EMPTY;
-        for v in 0..self.nodes {
+        for v in 0..self.classes.len() {
             if !self.is_spilled(v) {
                 set = set.with(v);
             }
@@ -102,14 +102,4 @@ impl Colouring {
     {
         self.registers[..n.min(448)].get(node).copied().unwrap_or(0)
     }
-}
-
-// The elements of a shorter array at the front of a longer one.
-fn extended<T: Copy, const N: usize, const M: usize>(short: &[T; N], filler: T) -> [T; M]
-    requires { N ≤ M }
-    ensures { take N result ≡ short.now }
-{
-    let mut long = [filler; M];
-    long[..N].copy_from_slice(short);
-    long
 }

@@ -1,5 +1,5 @@
 -- Registers and places by what a draft and the end of its round hold.
-use Rattle.std.specs.Prelude.{ℕ, cond, Some, None, Option, List, take, slice_index, slice_index_or}
+use Rattle.std.specs.Prelude.{ℕ, cond, Some, None, Option, length, take, slice_index, slice_index_or}
 use Rattle.sets.specs.Sets.{has}
 use Rattle.sets.specs.Words.{members}
 use Rattle.compiling.specs.declared.Home.TheVariants.{Register}
@@ -20,12 +20,12 @@ register_or reg (Some v) = reg v
 
 -- the register of a node at the end of a draft's round
 abbrev pub node_register : Draft → Colouring → ℕ → ℕ
-node_register d end v = slice_index (take d.nodes end.registers) v
+node_register d end v = slice_index (take (length d.classes) end.registers) v
 
 -- the place of a variable after a round that coloured, in a draft that has its registers and the number of the round
 unfoldable pub place_after : Draft → Colouring → ℕ → Place
 unfolding has
 place_after d end v =
     let places = (working_of d).places in
-    let new : Place = record { home = Register (slice_index (coloured_of d).registers v); round = d.rounds; hoped = has (members end.hoped) (slice_index_or (take d.nodes end.node) v v) } in
+    let new : Place = record { home = Register (slice_index (coloured_of d).registers v); round = d.rounds; hoped = has (members end.hoped) (slice_index_or (take (length d.classes) end.node) v v) } in
     cond (spilled places v) (place_of places v) new

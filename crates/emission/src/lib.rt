@@ -14,11 +14,12 @@ use compiling::{Home, Place};
 use drafts::draft::Draft;
 use drafts::token::Colouring;
 use layout::blocks::Layout;
+use lists::Few;
 use rows::Row;
 
 // The draft after a round that coloured it: a register for every variable, and the places of those without a slot.
 pub fn colour(draft: &Draft, end: &Colouring) -> Draft
-    ensures { (o : Outcome) → Shows draft.now.nodes end.now o → Inside (working_of draft.now) o → draft.now.rounds < 255 → coloured_of result ≡ coloured (working_of draft.now) o }
+    ensures { (o : Outcome) → Shows (length draft.now.classes) end.now o → Inside (working_of draft.now) o → draft.now.rounds < 255 → coloured_of result ≡ coloured (working_of draft.now) o }
 {
     let mut next = *draft;
     next.registers = registers_of(draft, end);
@@ -28,24 +29,24 @@ pub fn colour(draft: &Draft, end: &Colouring) -> Draft
 }
 
 // The register of each variable: that of its node.
-fn registers_of(draft: &Draft, end: &Colouring) -> [u8; 448]
-    ensures { take draft.now.nodes result ≡ map (node_register draft.now end.now) (take draft.now.nodes end.now.node) }
+fn registers_of(draft: &Draft, end: &Colouring) -> Few<u8, 448>
+    ensures { result ≡ map (node_register draft.now end.now) (take (length draft.now.classes) end.now.node) }
 {
-    let mut registers = [0; 448];
-    for (v, node) in end.node[..draft.nodes].iter().enumerate() {
-        registers[v] = end.register_of(draft.nodes, *node as usize);
+    let n = draft.classes.len();
+    let mut registers = Few::new();
+    for node in &end.node[..n] {
+        registers.push(end.register_of(n, *node as usize));
     }
     registers
 }
 
 // The places of the source's variables in a draft that has its registers: those without a slot are given in its last round.
-fn places_of(draft: &Draft, end: &Colouring) -> [Place; 64]
-    ensures { take draft.now.source.vars result ≡ map (place_after draft.now end.now) (range draft.now.source.vars 0) }
+fn places_of(draft: &Draft, end: &Colouring) -> Few<Place, 64>
+    ensures { result ≡ map (place_after draft.now end.now) (range draft.now.source.vars 0) }
 {
-    // Filled by number, since a proof knows nothing of elements that a walk over a part of an array wrote.
-    let mut places = draft.places;
+    let mut places = Few::new();
     for v in 0..draft.source.vars {
-        places[v] = place_of(draft, end, v);
+        places.push(place_of(draft, end, v));
     }
     places
 }
@@ -60,7 +61,7 @@ fn place_of(draft: &Draft, end: &Colouring, v: usize) -> Place
     Place {
         home: Home::Register(draft.register_of(v)),
         round: draft.rounds,
-        hoped: end.hoped.contains(end.node_of(draft.nodes, v)),
+        hoped: end.hoped.contains(end.node_of(draft.classes.len(), v)),
     }
 }
 
@@ -68,10 +69,8 @@ fn place_of(draft: &Draft, end: &Colouring, v: usize) -> Place
 pub fn emit(draft: &Draft) -> Draft
     ensures { compiled_of result ≡ emitted_by (coloured_of draft.now) }
 {
-    let code = lay_out(draft).moved();
     let mut next = *draft;
-    next.count = code.len();
-    next.rows = code.padded();
+    next.rows = lay_out(draft).moved();
     next
 }
 

@@ -1,7 +1,7 @@
 -- Lists that keep no more than 512 of their elements.
 use Rattle.std.proofs.Common.{◌≡◌, ℕ, zero, suc, ◌+◌, ◌<◌, ◌≤◌, List, [], ◌∷◌, ◌++◌, map, length, get_or, take, set, sym, refl, ap, ◌∙◌, inl, inr, add-zero, zero-add, add-one, arith, length-take}
 use lib.ListN.{length-map}
-use Rattle.std.proofs.lemmas.List.{take_more_set, take_all, take_at, take-append-le, length-take-le, map_more, map_push}
+use Rattle.std.proofs.lemmas.List.{take_more_set, take_all, take_at, length_push, take-append-le, length-take-le, map_more, map_push}
 use Rattle.std.proofs.lemmas.Bool.{cases_lt}
 use Rattle.counting.specs.Counting.{range}
 
@@ -19,10 +19,6 @@ mapped_push m f ys i d few l e h g =
     let all : length (take (i + 1) ys) ≤ m = simp length-take (omega arith) in
     g ∙ rw (e, h, ← (map_more f ys i d l)) (take_all m (map f (take (i + 1) ys)) (rw (length-map (take (i + 1) ys) f) all))
 
--- an array filled by a function of another list's elements, one element more
-pub mapped_more : {A B : Type 0} (f : A → B) (xs : List B) (ys : List A) (i : ℕ) (y : B) (d : A) → i < length xs → i < length ys → take i xs ≡ map f (take i ys) → y ≡ f (get_or ys i d) → take (i + 1) (set xs i y) ≡ map f (take (i + 1) ys)
-mapped_more f xs ys i y d lx ly e h = rw (take_more_set xs i y lx, e, h) (sym (map_more f ys i d ly))
-
 -- the numbers below n + 1
 range_more : (n j : ℕ) → range (suc n) j ≡ range n j ++ (j + n) ∷ []
 unfolding range
@@ -32,6 +28,18 @@ range_more (suc n) j = ap (λ l. j ∷ l) (range_more n (suc j) ∙ ap (λ k. ra
 -- an array filled by a function of the place, one element more
 pub filled_more : {B : Type 0} (f : ℕ → B) (xs : List B) (i : ℕ) (y : B) → i < length xs → take i xs ≡ map f (range i 0) → y ≡ f i → take (i + 1) (set xs i y) ≡ map f (range (i + 1) 0)
 filled_more f xs i y l e h = rw (take_more_set xs i y l, e, h, add-one, range_more, zero-add) (sym (map_push f (range i 0) i))
+
+-- there are n numbers below n
+range_length : (n j : ℕ) → length (range n j) ≡ n
+unfolding range
+range_length zero j = refl
+range_length (suc n) j = ap suc (range_length n (suc j))
+
+-- a list of the results of a function of the place, one more of them pushed where there is room
+pub filled_push : {B : Type 0} (m : ℕ) (f : ℕ → B) (i : ℕ) → i < m → {xs xs' : List B} {y : B} → xs ≡ map f (range i 0) → y ≡ f i → xs' ≡ take m (xs ++ y ∷ []) → xs' ≡ map f (range (i + 1) 0)
+filled_push m f i l e h g =
+    let room : length (map f (range i 0) ++ f i ∷ []) ≤ m = rw (length_push, length-map (range i 0) f, range_length i 0) (omega arith) in
+    g ∙ rw (e, h, add-one, range_more, zero-add) (take_all m (map f (range i 0) ++ f i ∷ []) room ∙ sym (map_push f (range i 0) i))
 
 -- functions that agree on the numbers of a range
 pub range_ext : {B : Type 0} (f g : ℕ → B) (n j : ℕ) → ((k : ℕ) → k < j + n → f k ≡ g k) → map f (range n j) ≡ map g (range n j)

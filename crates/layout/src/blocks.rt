@@ -1,6 +1,6 @@
 ghost use Rattle.std.specs.Prelude.{◌≤◌, length};
 
-use crate::few::Few;
+use lists::Few;
 use rows::Row;
 
 // Blocks in a line, as far as there is room: the rows of all of them, and where each one starts.

@@ -1,13 +1,12 @@
 #![tactic(auto)]
 
 pub mod blocks;
-pub mod few;
 
-ghost use Rattle.std.specs.Prelude.{◌≡◌, [], ◌∷◌, ◌++◌, map, length, take, slice_index};
+ghost use Rattle.std.specs.Prelude.{◌≡◌, ◌≤◌, [], ◌∷◌, ◌++◌, map, length, take, slice_index};
 ghost use Rattle.compiling.specs.Blocks.{moved as moved_by};
 
 use blocks::Layout;
-use few::Few;
+use lists::Few;
 use rows::Row;
 
 impl Layout {
@@ -16,8 +15,8 @@ impl Layout {
         ensures starts { result.starts ≡ [] }
     {
         Layout {
-            rows: Few::empty(Row::END),
-            starts: Few::empty(0),
+            rows: Few::new(),
+            starts: Few::new(),
         }
     }
 
@@ -39,9 +38,10 @@ impl Layout {
 
     // The rows with their targets moved to the starts of blocks.
     pub fn moved(&self) -> Few<Row, 512>
-        ensures { result ≡ map (moved_by self.now.starts) self.now.rows }
+        ensures rows { result ≡ map (moved_by self.now.starts) self.now.rows }
+        ensures fits { length result ≤ 512 }
     {
-        let mut moved = Few::empty(Row::END);
+        let mut moved = Few::new();
         for row in self.rows.as_slice() {
             moved.push(self.moved_row(*row));
         }

@@ -105,6 +105,13 @@ impl<T: Blank, const N: usize> Few<T, N> {
         &self.items[..self.count]
     }
 
+    // An array that begins with the list.
+    pub fn padded(&self) -> [T; N]
+        ensures { take (length self.now) result ≡ self.now }
+    {
+        self.items
+    }
+
     // Adds an element behind the others, if there is room.
     pub fn push(&mut self, x: T)
         ensures items { self.new ≡ take N (self.old ++ x ∷ []) }

@@ -1,6 +1,6 @@
 -- What the end of a round shows of its spill order.
 use Rattle.std.proofs.Common.{◌≡◌, ℕ, suc, ◌+◌, ◌-◌, ◌<◌, ◌≤◌, min, Bool, true, false, cond, ◌&&◌, ltb, List, map, length, get_or, take, sym, refl, ap, ◌∙◌, arith}
-use Rattle.std.proofs.lemmas.List.{length-take-le, get_or-take}
+use Rattle.std.proofs.lemmas.List.{get_or-take}
 use Rattle.std.proofs.lemmas.Bool.{lt-ltb, le-ltb}
 use Rattle.counting.specs.Counting.{sum, range}
 use Rattle.counting.proofs.Sums.{sum_split, sum_ext, sum_mono, count_none}
@@ -54,24 +54,21 @@ ticket_same s t a b x y e f g = cc
 unfoldable pub placed : Bool → ℕ → ℕ → Bool → Place → Place
 placed out number round hoped was = let new : Place = record { home = Slot number; round = round; hoped = hoped } in cond out new was
 
-module _ (d : Draft) (end : Colouring) (o : Outcome) (s : Shows d.nodes end o) (small : Small (working_of d) o) where
-  nodes_length : length (take d.nodes d.classes) ≡ d.nodes
-  nodes_length = length-take-le d.nodes d.classes (omega (arith, d.few, d.whole))
-
+module _ (d : Draft) (end : Colouring) (o : Outcome) (s : Shows (length d.classes) end o) (small : Small (working_of d) o) where
   node_shown : (v : ℕ) → node_in d end v ≡ node_at o.graph v
   node_shown v = ap (λ (ns : List ℕ). get_or ns v v) s.node
 
-  slot_shown : (k : ℕ) → k ≤ d.nodes → slot_below d end k ≡ d.slots + size k o.spilled
+  slot_shown : (k : ℕ) → k ≤ length d.classes → slot_below d end k ≡ d.slots + size k o.spilled
   unfolding slot_below slots_after
   slot_shown k l =
-      let few : d.slots + size d.nodes o.spilled ≤ 255 = rw nodes_length at small.slots in
-      let more : size k o.spilled ≤ size d.nodes o.spilled = sum_mono (λ j. cond (has o.spilled j) 1 0) k d.nodes l in
+      let few : d.slots + size (length d.classes) o.spilled ≤ 255 = small.slots in
+      let more : size k o.spilled ≤ size (length d.classes) o.spilled = sum_mono (λ j. cond (has o.spilled j) 1 0) k (length d.classes) l in
       let short : min k 448 ≡ k = omega (arith, d.few) in
       rw (short, s.spilled) (omega arith)
 
-  pub given_shown : slot_below d end d.nodes ≡ slots_after (working_of d) o
+  pub given_shown : slot_below d end (length d.classes) ≡ slots_after (working_of d) o
   unfolding slots_after
-  given_shown = rw nodes_length (slot_shown d.nodes (omega arith))
+  given_shown = slot_shown (length d.classes) (omega arith)
 
   pub order_shown : (out : ℕ) (slots : List ℕ) → out ≡ those (λ v. has (members end.spilled) (node_in d end v)) d.source.vars → slots ≡ map (λ v. slot_below d end (node_in d end v)) (range d.source.vars 0) →
       ◌≡◌ {A = Order} (record { out = out; slots = slots }) (spill_order (working_of d) o)
@@ -81,7 +78,7 @@ module _ (d : Draft) (end : Colouring) (o : Outcome) (s : Shows d.nodes end o) (
       order_same out (those (λ v. has o.spilled (node_at o.graph v)) vars) slots (map (λ v. d.slots + size (node_at o.graph v) o.spilled) (range vars 0))
       (e ∙ ap (λ (x : ℕ). those (λ v. has x (node_in d end v)) vars) s.spilled ∙ ap (λ (ns : List ℕ). those (λ v. has o.spilled (get_or ns v v)) vars) s.node)
       (f ∙ range_ext (λ v. slot_below d end (node_in d end v)) (λ v. d.slots + size (node_at o.graph v) o.spilled) vars 0
-      (λ v l. ap (slot_below d end) (node_shown v) ∙ slot_shown (node_at o.graph v) (omega (arith, nodes_length, small.inside v (omega arith)))))
+      (λ v l. ap (slot_below d end) (node_shown v) ∙ slot_shown (node_at o.graph v) (omega (arith, small.inside v (omega arith)))))
 
   pub places_shown : (out hoped : ℕ) (slots : List ℕ) → ◌≡◌ {A = Order} (record { out = out; slots = take d.source.vars slots }) (spill_order (working_of d) o) → hoped ≡ those (λ v. has (members end.hoped) (node_in d end v)) d.source.vars →
       map (λ v. placed (has out v) (get_or slots v 0) (suc d.rounds) (has hoped v) (place_of (working_of d).places v)) (range d.source.vars 0) ≡ places_spilled (working_of d) o
@@ -96,5 +93,5 @@ module _ (d : Draft) (end : Colouring) (o : Outcome) (s : Shows d.nodes end o) (
       let number : get_or slots v 0 ≡ slot_in (spill_order w o) v = sym (get_or-take vars slots v 0 lv) ∙ ap (λ (x : Order). slot_in x v) e in
       let hope : has hoped v ≡ hoped_for o.order (node_at o.graph v) =
       ap (λ (x : ℕ). has x v) f ∙ has_those (λ u. has (members end.hoped) (node_in d end u)) vars v ∙ ap (λ b. b && has (members end.hoped) (node_in d end v)) (lt-ltb v vars lv)
-      ∙ ap (has (members end.hoped)) (node_shown v) ∙ s.hoped (node_at o.graph v) (omega (arith, nodes_length, small.inside v lv)) in
+      ∙ ap (has (members end.hoped)) (node_shown v) ∙ s.hoped (node_at o.graph v) (omega (arith, small.inside v lv)) in
       rw (outs, number, hope))

@@ -1,5 +1,5 @@
 -- Spill orders by what a draft and the end of its round hold.
-use Rattle.std.specs.Prelude.{ℕ, ◌+◌, ◌≤◌, min, take, slice_index_or}
+use Rattle.std.specs.Prelude.{ℕ, ◌+◌, ◌≤◌, min, length, take, slice_index_or}
 use Rattle.counting.specs.Counting.{sum}
 use Rattle.sets.specs.Sets.{has, size}
 use Rattle.sets.specs.Words.{members}
@@ -17,7 +17,7 @@ pub record Small (w : Working) (o : Outcome) : Type 0 where
 
 -- the node of a variable
 abbrev pub node_in : Draft → Colouring → ℕ → ℕ
-node_in d end v = slice_index_or (take d.nodes end.node) v v
+node_in d end v = slice_index_or (take (length d.classes) end.node) v v
 
 -- the next slot behind those given and those of the spilled nodes below n
 unfoldable pub slot_below : Draft → Colouring → ℕ → ℕ

@@ -20,7 +20,7 @@ use compiling::{Home, Place};
 use drafts::draft::Draft;
 use drafts::token::{Colouring, Token};
 use layout::blocks::Layout;
-use layout::few::Few;
+use lists::Few;
 use page::Page;
 use rows::Row;
 use sets::NodeSet;
@@ -28,14 +28,14 @@ use temporary::{Temporaries, Temporary};
 
 // The spill order of a round that spilled: the next free slots for its nodes, in rising order.
 pub fn spill(draft: &Draft, end: &Colouring) -> Token
-    ensures { (o : Outcome) → Shows draft.now.nodes end.now o → Small (working_of draft.now) o → ticket_of result (working_of draft.now) ≡ ticket (working_of draft.now) o }
+    ensures { (o : Outcome) → Shows (length draft.now.classes) end.now o → Small (working_of draft.now) o → ticket_of result (working_of draft.now) ≡ ticket (working_of draft.now) o }
 {
     let round = Round { draft, end };
     Token {
         out: round.variables_in(&end.spilled),
         hoped: round.variables_in(&end.hoped),
         slots: round.slots(),
-        given: round.slot_below(draft.nodes),
+        given: round.slot_below(draft.classes.len()),
     }
 }
 
@@ -50,7 +50,7 @@ impl<'a> Round<'a> {
     fn node_of(&self, v: usize) -> usize
         ensures { result ≡ node_in self.now.draft.now self.now.end.now v }
     {
-        self.end.node_of(self.draft.nodes, v)
+        self.end.node_of(self.draft.classes.len(), v)
     }
 
     // The source variables whose nodes are in a set.
@@ -93,12 +93,9 @@ pub fn rewrite(draft: &Draft, token: &Token) -> Draft
 {
     let rewriting = Rewriting { draft, token };
     let page = rewriting.write_blocks();
-    let rows = page.layout.moved();
     let mut next = *draft;
-    next.count = rows.len();
-    next.rows = rows.padded();
-    next.nodes = page.classes.len();
-    next.classes = page.classes.padded();
+    next.rows = page.layout.moved();
+    next.classes = page.classes;
     next.rounds = draft.rounds.saturating_add(1);
     next.slots = token.given;
     next.places = rewriting.places(next.rounds);
@@ -114,13 +111,12 @@ struct Rewriting<'a> {
 
 impl<'a> Rewriting<'a> {
     // The places of the source's variables, those that go out in their slots.
-    fn places(&self, round: u8) -> [Place; 64]
-        ensures { take self.now.draft.now.source.vars result ≡ map (place_spilled self.now.draft.now self.now.token.now round) (range self.now.draft.now.source.vars 0) }
+    fn places(&self, round: u8) -> Few<Place, 64>
+        ensures { result ≡ map (place_spilled self.now.draft.now self.now.token.now round) (range self.now.draft.now.source.vars 0) }
     {
-        // Filled by number, since a proof knows nothing of elements that a walk over a part of an array wrote.
-        let mut places = self.draft.places;
+        let mut places = Few::new();
         for v in 0..self.draft.source.vars {
-            places[v] = self.place_of(round, v);
+            places.push(self.place_of(round, v));
         }
         places
     }
@@ -156,12 +152,12 @@ impl<'a> Rewriting<'a> {
         ensures lines { result.layout.rows ≡ [] }
         ensures starts { result.layout.starts ≡ [] }
         ensures classes { result.classes ≡ (working_of self.now.draft.now).classes }
-        ensures next { result.next ≡ self.now.draft.now.nodes }
+        ensures next { result.next ≡ length (working_of self.now.draft.now).classes }
     {
         Page {
             layout: Layout::new(),
-            next: self.draft.nodes as u16,
-            classes: Few::front(self.draft.classes, self.draft.nodes),
+            next: self.draft.classes.len() as u16,
+            classes: self.draft.classes,
         }
     }
 

@@ -1,7 +1,7 @@
 ghost use Rattle.std.specs.Prelude.{◌≤◌, length};
 
 use layout::blocks::Layout;
-use layout::few::Few;
+use lists::Few;
 
 // A program while it is rewritten: its blocks, and the classes of variables and temporaries as far as there is room.
 // `next` is the number of the next temporary.

@@ -9,6 +9,7 @@ ghost use Rattle.sets.specs.Sets.{union, single, when};
 ghost use Rattle.sets.specs.Words.{members};
 ghost use Rattle.rows.specs.Rows.{shape as shape_of, copies as copies_of, opcode as opcode_of, fits as fits_of, reads as reads_of, writes as writes_of, next as next_of, set_of, used, op_in_source, rows_left};
 
+use lists::Blank;
 use sets::NodeSet;
 
 // What a row does, by the number of its opcode. Loads and stores stand in compiled code only.
@@ -225,6 +226,16 @@ impl Iterator for Ways {
             None => self.below.take(),
             target => target,
         }
+    }
+}
+
+impl Blank for Row {
+    ghost use Rattle.rows.specs.Rows.{end_row};
+
+    ghost blank_value = { end_row };
+
+    fn blank() -> Row {
+        Row::END
     }
 }
 

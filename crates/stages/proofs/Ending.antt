@@ -1,7 +1,6 @@
 -- The program of the row end alone can be played.
-use Rattle.std.proofs.Common.{◌≡◌, ℕ, zero, suc, ◌<◌, ◌≤◌, true, List, [], ◌∷◌, length, refl, arith}
-use Rattle.rows.specs.declared.Row.{Row}
-use Rattle.rows.specs.Rows.{shape, end_row, row_at}
+use Rattle.std.proofs.Common.{◌≡◌, ℕ, zero, suc, [], ◌∷◌, refl, arith}
+use Rattle.rows.specs.Rows.{end_row, row_at}
 use Rattle.histories.specs.Histories.{Playable, end_code}
 
 quiet : (i : ℕ) → row_at (end_row ∷ []) i ≡ end_row

@@ -1,14 +1,14 @@
 -- What every program that came from a file has room for.
-use Rattle.std.proofs.Common.{◌≡◌, ℕ, ◌<◌, ◌≤◌, false, length, refl, arith}
+use Rattle.std.proofs.Common.{ℕ, ◌≤◌, refl, arith}
 use mathlib.Core.Logic.{∥∥₁_elim}
 use native.Mathlib.Bridge.{le_prop}
 use Rattle.registers.specs.Model.{Model, Lawful}
 use Rattle.rounds.specs.Interference.{node_at}
-use Rattle.rounds.specs.Round.{colours, round}
+use Rattle.rounds.specs.Round.{round}
 use Rattle.compiling.specs.Working.{Working, unspilled, round_of}
 use Rattle.compiling.specs.Rewrite.{rewritten}
 use Rattle.merging.proofs.Rounds.{round_merges}
-use Rattle.histories.specs.Histories.{Grown, HasGrown, Fitting}
+use Rattle.histories.specs.Histories.{HasGrown}
 use Rattle.transfer.proofs.Pairing.{in_order}
 use Rattle.histories.proofs.Growing.{kept}
 use Rattle.histories.proofs.Merely.{fitting_of, next_grown}

@@ -8,8 +8,8 @@ use Rattle.sets.specs.declared.NodeSet.{NodeSet}
 use Rattle.sets.specs.Words.{cleared, empty_set}
 use Rattle.rows.specs.Rows.{Program}
 use Rattle.source.specs.Reading.{reading}
-use Rattle.admission.specs.Admission.{unless_fault, admitting, judged, faultless, fact_fault}
-use Rattle.admission.specs.Memory.{Parts, parts, short_part, emptied, answered, answered_by, unless_short}
+use Rattle.admission.specs.Admission.{unless_fault, admitting, judged}
+use Rattle.admission.specs.Memory.{Parts, short_part, emptied, answered, unless_short}
 use Rattle.admission.proofs.Judging.{roomy}
 use Rattle.allocation.specs.Allocation.{afterwards}
 

@@ -1,10 +1,10 @@
 -- What rewriting may rely on: a spill order of a round of a program that came from a file.
-use Rattle.std.proofs.Common.{◌≡◌, ℕ, ◌≤◌, List, ◌∷◌, Ok, Err, ap, arith}
+use Rattle.std.proofs.Common.{◌∷◌, Ok, Err, ap, arith}
 use mathlib.Core.Logic.{∥∥₁_elim, ∥∥₁_map}
 use native.Mathlib.Bridge.{le_prop}
 use Rattle.registers.specs.Model.{Model, Lawful}
 use Rattle.compiling.specs.Working.{Working, round_of}
-use Rattle.compiling.specs.Rewrite.{Ticket, ticket, rewritten_by, rewritten}
+use Rattle.compiling.specs.Rewrite.{Ticket, rewritten_by, rewritten}
 use Rattle.drafts.specs.declared.draft.Draft.{Draft}
 use Rattle.drafts.specs.declared.token.Token.{Token}
 use Rattle.drafts.specs.Drafts.{coloured_of, ticket_of}

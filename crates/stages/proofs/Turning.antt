@@ -1,5 +1,5 @@
 -- A round of a draft is the round of its working program.
-use Rattle.std.proofs.Common.{◌≡◌, ℕ, ◌≤◌, Bool, true, false, eqb, List, length, take, sym, refl, ap, ◌∙◌, arith}
+use Rattle.std.proofs.Common.{◌≡◌, ℕ, ◌≤◌, Bool, true, false, eqb, List, length, sym, refl, ap, ◌∙◌, arith}
 use Rattle.std.proofs.lemmas.List.{length-take-le}
 use Rattle.std.proofs.lemmas.Bool.{eqb-true}
 use Rattle.counting.proofs.Sums.{count_none}
@@ -22,19 +22,18 @@ use Rattle.histories.specs.Histories.{Fitting}
 use Rattle.stages.specs.Stages.{Ready}
 
 -- variables made of a draft are as many as it has
-counted : (d : Draft) (v : Variables) → classes_of v ≡ take d.nodes d.classes → v.count ≡ d.nodes
-counted d v e =
-    sym (length-take-le v.count v.classes (omega (arith, v.few.1, v.whole.0))) ∙ ap length e ∙ length-take-le d.nodes d.classes (omega (arith, d.few.1, d.whole.1))
+counted : (d : Draft) (v : Variables) → classes_of v ≡ d.classes → v.count ≡ length d.classes
+counted d v e = sym (length-take-le v.count v.classes (omega (arith, v.few.1, v.whole.0))) ∙ ap length e
 
 same_round : (m : Model) (end : Colouring) (n n' s s' : ℕ) (cs cs' : List ℕ) (ns ns' : ℕ) (rs rs' : List Row) → n ≡ n' → s ≡ s' → cs ≡ cs' → ns ≡ ns' → rs ≡ rs' →
     Shows n end (round m s cs ns rs) → Shows n' end (round m s' cs' ns' rs')
 same_round m end n n' s s' cs cs' ns ns' rs rs' a b c d e h = rw (a, b, c, d, e) at h
 
 pub shown : (m : Model) (d : Draft) (v : Variables) (nodes : ℕ) (rows : List Row) (end : Colouring) →
-    v.source ≡ d.source.vars → classes_of v ≡ take d.nodes d.classes → nodes ≡ unspilled (working_of d) → rows ≡ take d.count d.rows →
-    Shows v.count end (round m v.source (classes_of v) nodes rows) → Shows d.nodes end (round_of m (working_of d))
+    v.source ≡ d.source.vars → classes_of v ≡ d.classes → nodes ≡ unspilled (working_of d) → rows ≡ d.rows →
+    Shows v.count end (round m v.source (classes_of v) nodes rows) → Shows (length d.classes) end (round_of m (working_of d))
 unfolding round_of
-shown m d v nodes rows end s c n r h = same_round m end v.count d.nodes v.source d.source.vars (classes_of v) (take d.nodes d.classes) nodes (unspilled (working_of d)) rows (take d.count d.rows) (counted d v c) s c n r h
+shown m d v nodes rows end s c n r h = same_round m end v.count (length d.classes) v.source d.source.vars (classes_of v) d.classes nodes (unspilled (working_of d)) rows d.rows (counted d v c) s c n r h
 
 -- what a round that colours gives no slot to
 none_given : (w : Working) (o : Outcome) → o.spilled ≡ 0 → slots_after w o ≡ w.slots

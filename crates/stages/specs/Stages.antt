@@ -1,5 +1,5 @@
 -- The program in a record, and what each state knows of it.
-use Rattle.std.specs.Prelude.{◌≡◌, ℕ, Bool, true, false, List, [], ◌∷◌, Some, None, Ok, Err, Option, Result}
+use Rattle.std.specs.Prelude.{◌≡◌, ℕ, Bool, true, false, List, Ok, Err, Result}
 use Rattle.faults.specs.declared.ProgramFault.{ProgramFault}
 use Rattle.rows.specs.Rows.{Program}
 use Rattle.source.specs.Results.{program_of}

@@ -128,10 +128,12 @@ fn take_turn<F: RegisterFile>(
     ensures turned { Turned (working_of draft.now) (round_of (F.RegisterFile.model file.now) (working_of draft.now)) result }
     ensures memory { parts first.new second.new third.new ≡ afterwards (parts first.old second.old third.old) }
 {
-    let variables = Variables::of(draft.source.vars, draft.nodes, draft.classes);
-    let lines = Lines {
-        rows: &draft.rows[..draft.count],
-    };
+    let variables = Variables::of(
+        draft.source.vars,
+        draft.classes.len(),
+        draft.classes.padded(),
+    );
+    let lines = Lines { rows: draft.rows() };
     let round = Round {
         file,
         variables: &variables,

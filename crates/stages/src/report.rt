@@ -46,19 +46,19 @@ impl Record {
     fn code(&self) -> &[Row]
         ensures { result.now ≡ (compiled_in self.now).rows }
     {
-        &self.draft.rows[..self.draft.count]
+        self.draft.rows()
     }
 
     fn places(&self) -> &[Place]
         ensures { result.now ≡ (compiled_in self.now).places }
     {
-        &self.draft.places[..self.draft.source.vars]
+        self.draft.places.as_slice()
     }
 
     fn place(&self, v: usize) -> Option<Place>
         ensures { result ≡ (if nat_lt v (compiled_in self.now).source.vars then Some (place_of (compiled_in self.now).places v) else None) }
     {
-        self.places().get(v).copied()
+        (v < self.vars()).then(|| self.draft.place_of(v))
     }
 }
 

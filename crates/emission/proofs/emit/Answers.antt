@@ -1,4 +1,4 @@
-use Rattle.std.proofs.Common.{◌≡◌, ◌≤◌, map, length, take, ap, ◌∙◌, arith, length-take}
+use Rattle.std.proofs.Common.{◌≡◌, ◌≤◌, map, length, arith}
 use lib.ListN.{length-map}
 use Rattle.compiling.specs.Blocks.{flat, assembled}
 use Rattle.compiling.specs.Emit.{code_block}
@@ -11,10 +11,9 @@ pub returns : goal.returns
 returns c =
     let d = c.args.draft.now in
     let f = code_block (register_in d) in
-    let rows = take d.count d.rows in
-    let short : length rows ≤ 512 = simp length-take (omega (arith, d.few)) in
+    let rows = d.rows in
+    let short : length rows ≤ 512 = d.few.0 in
     let blocks : length (map f rows) ≤ 512 = simp length-map short in
     let few : length (flat (map f rows)) ≤ 512 = omega (arith, code_few (register_in d) rows) in
-    let code : c.moved-code.result ≡ assembled (map f rows) = holds_assembled _ _ _ (map f rows) c.lay_out.ensures few blocks c.moved-code.ensures in
-    let same : take c.len.result c.padded-next.result ≡ assembled (map f rows) = ap (λ n. take n c.padded-next.result) c.len.ensures.count ∙ c.padded-next.ensures ∙ code in
+    let code : c.moved-next.result ≡ assembled (map f rows) = holds_assembled _ _ _ (map f rows) c.lay_out.ensures few blocks c.moved-next.ensures.rows in
     cc

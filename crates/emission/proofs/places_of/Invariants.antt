@@ -1,7 +1,7 @@
-use Rattle.std.proofs.Common.{◌≡◌, map, length, take}
+use Rattle.std.proofs.Common.{◌≡◌, map}
 use Rattle.counting.specs.Counting.{range}
 use Rattle.emission.specs.Emission.{place_after}
 use Rattle.emission.proofs.places_of.Given as goal
 
 abbrev pub invariant-loop-v : goal.invariant-loop-v
-invariant-loop-v l = (take l.v l.places ≡ map (place_after l.draft l.end) (range l.v 0)) × (length l.places ≡ 64)
+invariant-loop-v l = l.places ≡ map (place_after l.draft l.end) (range l.v 0)

@@ -2,5 +2,5 @@ use Rattle.std.proofs.Common.{◌≡◌, map, length, take}
 use Rattle.emission.specs.Emission.{node_register}
 use Rattle.emission.proofs.registers_of.Given as goal
 
-abbrev pub invariant-loop-v : goal.invariant-loop-v
-invariant-loop-v l = (take l.v l.registers ≡ map (node_register l.draft l.end) (take l.v (take l.draft.nodes l.end.node))) × (length l.registers ≡ 448)
+abbrev pub invariant-loop-node : goal.invariant-loop-node
+invariant-loop-node l = l.registers ≡ map (node_register l.draft l.end) (take l.node-index (take (length l.draft.classes) l.end.node))

@@ -1,4 +1,4 @@
-use Rattle.std.proofs.Common.{◌≡◌, ℕ, suc, ◌≤◌, ◌++◌, map, length, take, ap, ◌∙◌, arith, length-take}
+use Rattle.std.proofs.Common.{◌≡◌, ℕ, suc, ◌≤◌, ◌++◌, map, length, ap, ◌∙◌, arith}
 use Rattle.std.proofs.lemmas.List.{take_all}
 use Rattle.counting.specs.Counting.{range}
 use Rattle.compiling.specs.Blocks.{flat, assembled}
@@ -20,13 +20,13 @@ returns c room =
     let page = c.write_blocks-page.ensures in
     let bs = blocks s class (length w.classes) w.rows in
     let cs = w.classes ++ map class (all_replaced s w.rows) in
-    let rows : length w.rows ≤ 512 = simp length-take (omega (arith, d.few)) in
+    let rows : length w.rows ≤ 512 = d.few.0 in
     let few : length (flat bs) ≤ 512 = rw (assembled_length bs) at room.rows in
     let short : length bs ≤ 512 = rw (blocks_length s class (length w.classes) w.rows) rows in
     let round : c.saturating_add.result ≡ suc d.rounds = omega (arith, room.rounds) in
-    let code : c.moved-rows.result ≡ assembled bs = holds_assembled _ _ _ bs page.lines few short c.moved-rows.ensures in
+    let code : c.moved-next.result ≡ assembled bs = holds_assembled _ _ _ bs page.lines few short c.moved-next.ensures.rows in
     working_same w.source _ (assembled bs) _ cs _ (suc d.rounds) t.given _ (map (place_spilled d t (suc d.rounds)) (range d.source.vars 0))
-    (ap (λ n. take n c.padded-next.result) c.len.ensures.count ∙ c.padded-next.ensures ∙ code)
-    (ap (λ n. take n c.padded-next-2.result) c.len-2.ensures.count ∙ c.padded-next-2.ensures ∙ page.classes ∙ take_all 448 cs room.classes)
+    code
+    (page.classes ∙ take_all 448 cs room.classes)
     round
     (c.places-next.ensures ∙ ap (λ (k : ℕ). map (place_spilled d t k) (range d.source.vars 0)) round)

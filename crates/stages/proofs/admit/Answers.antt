@@ -2,7 +2,7 @@ use Rattle.std.proofs.Common.{◌≡◌, ℕ, Ok, sym, ap, ◌∙◌, subst, ari
 use Rattle.std.proofs.lemmas.Result.{err_from_is_err_and}
 use Rattle.rows.specs.Rows.{Program}
 use Rattle.source.specs.Results.{program_of}
-use Rattle.admission.specs.Memory.{Answer, parts, answer, answered}
+use Rattle.admission.specs.Memory.{Answer, parts, answered}
 use Rattle.paths.proofs.Outcomes.{admission_by_paths}
 use Rattle.compiling.specs.Working.{Working, admitted}
 use Rattle.histories.specs.Histories.{HasGrown}

@@ -1,4 +1,4 @@
-use Rattle.std.proofs.Common.{◌≡◌, sym, refl, ap, ◌∙◌, subst}
+use Rattle.std.proofs.Common.{sym, refl, ap, ◌∙◌, subst}
 use mathlib.Core.Logic.{∥∥₁_map}
 use Rattle.compiling.specs.Working.{Compiled, round_of}
 use Rattle.compiling.specs.Emit.{Coloured, emitted, emitted_by}

@@ -1,14 +1,14 @@
-use Rattle.std.proofs.Common.{refl, arith, length-set}
+use Rattle.std.proofs.Common.{arith}
 use Rattle.counting.specs.Counting.{range}
-use Rattle.layout.proofs.Lists.{filled_more}
+use Rattle.layout.proofs.Lists.{filled_push}
 use Rattle.rewriting.specs.Pages.{place_spilled}
 use Rattle.rewriting.proofs.Rewriting.places.Goals as goal
 
 pub loop-v-init : goal.loop-v-init
 unfolding range
-loop-v-init c = (refl, c.args.self.now.draft.now.whole.3)
+loop-v-init c = c.new-places.ensures
 
 pub loop-v-preserved : goal.loop-v-preserved
 loop-v-preserved c =
     let d = c.args.self.now.draft.now in
-    (filled_more (place_spilled d c.args.self.now.token.now c.args.round) c.loop-v.places c.loop-v.v c.place_of.result (omega (arith, d.source.few)) c.loop-v.invariant.0 c.place_of.ensures, simp length-set c.loop-v.invariant.1)
+    filled_push 64 (place_spilled d c.args.self.now.token.now c.args.round) c.loop-v.v (omega (arith, d.source.few)) c.loop-v.invariant c.place_of.ensures c.push.ensures.items

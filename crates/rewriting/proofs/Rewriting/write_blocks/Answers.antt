@@ -1,5 +1,5 @@
 use Rattle.std.proofs.Common.{◌≡◌, ℕ, ◌+◌, ◌<◌, ◌≤◌, List, [], ◌∷◌, ◌++◌, map, length, get_or, take, sym, ap, ◌∙◌, arith}
-use Rattle.std.proofs.lemmas.List.{append_assoc, length-append, length-take-le, map-append, take_all, take_more, get_or_default}
+use Rattle.std.proofs.lemmas.List.{append_assoc, length-append, map-append, take_all, take_more, get_or_default}
 use Rattle.rows.specs.Rows.{end_row}
 use Rattle.compiling.specs.Blocks.{flat}
 use Rattle.compiling.specs.Rewrite.{block, blocks, replaced, all_replaced}
@@ -15,18 +15,17 @@ pub loop-row-init : goal.loop-row-init
 unfolding blocks all_replaced flat
 loop-row-init c =
     let d = c.args.self.now.draft.now in
-    let h = c.first_page-page.ensures in
-    let n : length (working_of d).classes ≡ d.nodes = length-take-le d.nodes d.classes (omega (arith, d.few, d.whole)) in (
+    let h = c.first_page-page.ensures in (
       holds_none _ _ h.lines h.starts,
-      h.classes ∙ nothing_more 448 (working_of d).classes (omega (arith, n, d.few)),
-      omega (arith, n, h.next),
+      h.classes ∙ nothing_more 448 d.classes d.few.1,
+      omega (arith, h.next),
       omega (arith, d.few, h.next),
     )
 
 pub write_block-requires : goal.write_block-requires
 write_block-requires c =
     let d = c.args.self.now.draft.now in
-    omega (arith, c.loop-row.invariant.3, d.few, ap length c.rows-row-items.ensures, c.loop-row-test.true, length-take-le d.count d.rows (omega (arith, d.few, d.whole)))
+    omega (arith, c.loop-row.invariant.3, d.few, ap length c.rows-row-items.ensures, c.loop-row-test.true)
 
 pub loop-row-preserved : goal.loop-row-preserved
 loop-row-preserved c =

@@ -1,6 +1,5 @@
-use Rattle.std.proofs.Common.{◌≡◌, ℕ, ◌≤◌, Bool, not, length, take, sym, refl, ap, ◌∙◌, arith}
+use Rattle.std.proofs.Common.{◌≡◌, ℕ, Bool, not, length, sym, refl, ap, ◌∙◌, arith}
 use Rattle.sets.specs.Words.{joined, members}
-use Rattle.std.proofs.lemmas.List.{length-take-le}
 use Rattle.rounds.specs.Round.{those}
 use Rattle.compiling.specs.Working.{unspilled, spilled}
 use Rattle.drafts.specs.Drafts.{working_of}
@@ -18,7 +17,7 @@ loop-v-preserved c =
     let t : ℕ → Bool = λ v. not (spilled (working_of d).places v) in
     elim c.if-not-is_spilled.branch [
       | then-not-is_spilled w ↦
-          those_with t c.loop-v.v (members c.loop-v.set) (members c.if-not-is_spilled.set) c.loop-v.invariant (ap not (sym c.is_spilled.ensures ∙ w.if-not-is_spilled.true)) (omega (arith, d.few)) (ap members w.set-is ∙ w.with-set.ensures)
+          those_with t c.loop-v.v (members c.loop-v.set) (members c.if-not-is_spilled.set) c.loop-v.invariant (ap not (sym c.is_spilled.ensures ∙ w.if-not-is_spilled.true)) (omega arith) (ap members w.set-is ∙ w.with-set.ensures)
       | else-not-is_spilled w ↦
           those_same t c.loop-v.v (members c.loop-v.set) (members c.if-not-is_spilled.set) c.loop-v.invariant (ap not (sym c.is_spilled.ensures ∙ w.if-not-is_spilled.false)) (ap members w.set-is)
     ]
@@ -27,6 +26,5 @@ pub returns : goal.returns
 unfolding unspilled
 returns c =
     let d = c.args.self.now in
-    let few : d.nodes ≤ length d.classes = omega (arith, d.few, d.whole) in
-    let n : c.loop-v.v ≡ length (take d.nodes d.classes) = simp length-take-le (omega arith) in
+    let n : c.loop-v.v ≡ length d.classes = omega arith in
     c.loop-v.invariant ∙ ap (those (λ v. not (spilled (working_of d).places v))) n

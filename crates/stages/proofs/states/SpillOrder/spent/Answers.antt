@@ -1,4 +1,4 @@
-use Rattle.std.proofs.Common.{◌≡◌, sym, subst}
+use Rattle.std.proofs.Common.{sym, subst}
 use Rattle.compiling.specs.Working.{Working}
 use Rattle.histories.specs.Histories.{HasGrown}
 use Rattle.stages.specs.Stages.{working_in}
