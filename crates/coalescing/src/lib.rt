@@ -68,7 +68,8 @@ impl<'a, F: RegisterFile> Merging<'a, F> {
     fn heavy_beside(&self, pair: Pair) -> NodeSet
         ensures { (h : Graph) → h.classes ≡ classes_of self.now.weighing.variables.now → h.edges ≡ contracted pair.low pair.high (sets_of self.now.weighing.edges.now) → (k : ℕ) → has (members result) k ≡ heavy_of (F.RegisterFile.model self.now.weighing.file.now) h pair.low k }
     {
-        pair.beside(self.weighing.edges).filter(|k| self.fails(pair, k))
+        pair.beside(self.weighing.edges)
+            .filter(|k| self.fails(pair, k))
     }
 
     // The pair of nodes x and y, if they may be merged.
