@@ -44,6 +44,17 @@ listing_one ss i j s l small e r m h =
       | inr q ↦ rw (get_or-set_other ss i r s 0 q, ne_eqb r i q) (or_none _)
     ]
 
+-- a number for which a set has no room is added to none
+pub listing_unheld : (ss : List ℕ) (i j : ℕ) (s : ℕ) → i < length ss → 448 ≤ j → s ≡ union (get_or ss i 0) (when (ltb j 448) (single j)) →
+    Listing ss (set ss i s) j []
+unfolding holds
+listing_unheld ss i j s l large e r m h =
+    elim (cases_eq r i) [
+      | inl q ↦ (let here : (get_or (set ss i s) r 0) ≡ union (get_or ss r 0) 0 = rw q ((get_or-set_same ss i s 0 l) ∙ e ∙ rw (le-ltb j 448 large)) in
+          rw (here, has_union (get_or ss r 0) 0 m, has_none m))
+      | inr q ↦ rw (get_or-set_other ss i r s 0 q) (or_none _)
+    ]
+
 pub listing_past : (ss : List ℕ) (i j : ℕ) → length ss ≤ i → Listing ss ss j (i ∷ [])
 unfolding holds
 listing_past ss i j l r m h = let ne : r ≡ i → ⊥ = omega arith in rw (ne_eqb r i ne) (or_none _)

@@ -1,8 +1,8 @@
 #![tactic(auto)]
 
-ghost use Rattle.std.specs.Prelude.{◌≡◌, ℕ, ◌<◌, ◌≤◌, true, false, not, List, [], ◌∷◌, length, take, drop, set, is_ok, ◌==◌, slice_index, slice_index_or};
+ghost use Rattle.std.specs.Prelude.{◌≡◌, ℕ, ◌<◌, ◌≤◌, true, false, not, List, [], ◌∷◌, length, take, drop, set, is_ok, ◌==◌, slice_index, slice_index_or, nat_lt};
 ghost use Rattle.std.specs.Iterator.{Drains, IsFinite};
-ghost use Rattle.rows.specs.Rows.{rows_left};
+ghost use Rattle.rows.specs.Rows.{rows_left, only};
 ghost use Rattle.facts.specs.Flow.{Flow, Lawful, rows as rows_of, feeders, turns, enters, at, gather, incoming as incoming_of, yields, sweep as swept, solved};
 ghost use Rattle.facts.specs.Solving.{Listing, comer_sets, suffices, Tells, Answers};
 
@@ -155,10 +155,10 @@ impl<'a, K: FactKind> Solver<'a, K> {
     }
 }
 
-// Adds j to the set at place i, if there is one. An index after a test, for `get_mut` tells nothing of what the slice ends as.
+// Adds j to the set at place i, if there is one and it can hold j. An index after a test, for `get_mut` tells nothing of what the
+// slice ends as.
 pub fn list_one(sets: &mut [NodeSet], i: usize, j: usize)
-    requires { j < 448 }
-    ensures { Listing sets.old sets.new j (i ∷ []) }
+    ensures { Listing sets.old sets.new j (only (nat_lt j 448) i) }
 {
     if i < sets.len() {
         sets[i] = sets[i].with(j);

@@ -1,12 +1,25 @@
-use Rattle.std.proofs.Common.{arith}
+use Rattle.std.proofs.Common.{inl, inr, arith}
+use Rattle.std.proofs.lemmas.Bool.{cases_lt, lt-ltb, le-ltb}
 use Rattle.std.proofs.lemmas.List.{get_or_read}
-use Rattle.facts.proofs.Memory.{listing_one, listing_past}
+use Rattle.facts.proofs.Memory.{listing_one, listing_unheld, listing_past, listing_none}
 use Rattle.facts.proofs.list_one.Goals as goal
 
 pub returns-then-i-sets : goal.returns-then-i-sets
 returns-then-i-sets c =
-    let e = get_or_read c.args.sets.now c.args.i c.index-sets-i.result c.if-i-sets.true c.index-sets-i.is 0 in
-    listing_one c.args.sets.now c.args.i c.args.j c.with.result (omega arith) (omega arith) (rw e at c.with.ensures)
+    let sets = c.args.sets.now in
+    let i = c.args.i in
+    let j = c.args.j in
+    let e = get_or_read sets i c.index-sets-i.result c.if-i-sets.true c.index-sets-i.is 0 in
+    elim (cases_lt j 448) [
+      | inl l ↦ rw (lt-ltb j 448 l) (listing_one sets i j c.with.result (omega arith) l (rw e at c.with.ensures))
+      | inr l ↦ rw (le-ltb j 448 l) (listing_unheld sets i j c.with.result (omega arith) l (rw e at c.with.ensures))
+    ]
 
 pub returns-else-i-sets : goal.returns-else-i-sets
-returns-else-i-sets c = listing_past c.args.sets.now c.args.i c.args.j (omega arith)
+returns-else-i-sets c =
+    let sets = c.args.sets.now in
+    let j = c.args.j in
+    elim (cases_lt j 448) [
+      | inl l ↦ rw (lt-ltb j 448 l) (listing_past sets c.args.i j (omega arith))
+      | inr l ↦ rw (le-ltb j 448 l) (listing_none sets j)
+    ]

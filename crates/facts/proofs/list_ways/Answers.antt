@@ -1,4 +1,5 @@
 use Rattle.std.proofs.Common.{List, ℕ, [], ◌∷◌, ◌++◌, sym, ap, ◌∙◌, append_assoc, append-nil, arith}
+use Rattle.std.proofs.lemmas.Bool.{lt-ltb}
 use Rattle.rows.specs.Rows.{rows_left}
 use Rattle.facts.proofs.Memory.{listing_none, listing_more}
 use Rattle.facts.proofs.list_ways.Goals as goal
@@ -10,7 +11,7 @@ pub loop-i-preserved : goal.loop-i-preserved
 loop-i-preserved g c =
     let done = c.loop-i.yielded in
     let i = c.in-Some.i in (
-      listing_more c.args.sets.now c.loop-i.sets c.list_one.new.sets c.args.j done i (omega arith) c.loop-i.invariant.0 c.list_one.ensures,
+      listing_more c.args.sets.now c.loop-i.sets c.list_one.new.sets c.args.j done i (omega arith) c.loop-i.invariant.0 (rw (lt-ltb c.args.j 448 (omega arith)) at c.list_one.ensures),
       append_assoc done (i ∷ []) (rows_left c.next.new.self) ∙ ap (λ (xs : List ℕ). done ++ xs) (sym c.in-Some.ensures.steps) ∙ c.loop-i.invariant.1,
     )
 

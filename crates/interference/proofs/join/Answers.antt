@@ -1,4 +1,5 @@
 use Rattle.std.proofs.Common.{ℕ, List, [], ◌∷◌, ◌++◌, sym, ap, ◌∙◌, append_assoc, append-nil, arith}
+use Rattle.std.proofs.lemmas.Bool.{lt-ltb}
 use Rattle.std.proofs.lemmas.List.{get_or_read}
 use Rattle.sets.specs.Sets.{union}
 use Rattle.sets.specs.Walks.{left_of}
@@ -13,7 +14,7 @@ pub loop-v-preserved : goal.loop-v-preserved
 loop-v-preserved c =
     let done = c.loop-v.yielded in
     let v = c.in-Some.v in (
-      listing_more c.args.edges.now c.loop-v.edges c.list_one.new.sets c.args.d done v (omega arith) c.loop-v.invariant.0 c.list_one.ensures,
+      listing_more c.args.edges.now c.loop-v.edges c.list_one.new.sets c.args.d done v (omega arith) c.loop-v.invariant.0 (rw (lt-ltb c.args.d 448 (omega arith)) at c.list_one.ensures),
       append_assoc done (v ∷ []) (left_of c.next.new.self) ∙ ap (λ (xs : List ℕ). done ++ xs) (sym c.in-Some.ensures.steps) ∙ c.loop-v.invariant.1,
     )
 
