@@ -1,8 +1,8 @@
 -- The rows that come to a row, as a list and as a set that is walked from its lowest member on.
-use Rattle.std.proofs.Common.{◌≡◌, ℕ, zero, suc, ◌+◌, ◌-◌, ◌^◌, ◌<◌, ◌≤◌, Bool, true, false, ◌&&◌, ◌||◌, eqb, leb, List, [], ◌∷◌, ◌++◌, length, get_or, sym, refl, ap, ◌∙◌, ap₂, inl, inr, pow-suc, map-id, arith}
+use Rattle.std.proofs.Common.{Option, ◌≡◌, ℕ, zero, suc, ◌+◌, ◌-◌, ◌^◌, ◌<◌, ◌≤◌, Bool, true, false, ◌&&◌, ◌||◌, eqb, leb, List, [], ◌∷◌, ◌++◌, length, get_or, sym, refl, ap, ◌∙◌, ap₂, inl, inr, pow-suc, map-id, arith}
 use Rattle.std.proofs.lemmas.List.{get_or_past}
 use Rattle.std.proofs.lemmas.Bool.{cases_Bool, cases_lt, cases_eq, le-leb, lt-leb, eq-eqb, ne_eqb}
-use Rattle.std.specs.Iterator.{Drains, YieldsFirst}
+use Rattle.std.specs.Iterator.{AlwaysYields, Drains, YieldsFirst}
 use Rattle.std.proofs.lemmas.Iterator.{items_from_drains}
 use Rattle.std.proofs.lemmas.Iterator.Consumers.{YieldsList-from_first}
 use Rattle.counting.specs.Counting.{range, down}
@@ -89,6 +89,19 @@ pub gather_more : (join : ℕ → ℕ → ℕ) (kept : ℕ → ℕ) (x : ℕ) (j
 unfolding gather
 gather_more join kept x [] j = refl
 gather_more join kept x (i ∷ js) j = gather_more join kept (join x (kept i)) js j
+
+-- an iterator that hands out the first of what is left always hands out what is left
+pub always_first : {S : Type 0} (rest : S → List ℕ) (s : S) (all : List ℕ) → rest s ≡ all → AlwaysYields (YieldsFirst rest) (λ j. j) s all
+always_first rest s all e = (YieldsList-from_first (λ j. j) rest all e).runs
+
+-- an iterator that always hands out a list has handed out all of it when it is drained
+pub drained : {S : Type 0} (steps : S → Option ℕ → S → Type 0) (s : S) (all : List ℕ) → AlwaysYields steps (λ j. j) s all → (js : List ℕ) → Drains steps s js → js ≡ all
+drained steps s all always js (u, (t, run, end)) =
+    sym (map-id js) ∙ items_from_drains {steps = steps} {v = λ j. j} {s = s} {all = all} js (t, run, λ _. (u, end)) record { runs = always }
+
+pub gather_always : {S : Type 0} (steps : S → Option ℕ → S → Type 0) (s : S) (all : List ℕ) (join : ℕ → ℕ → ℕ) (kept : ℕ → ℕ) (x y : ℕ) →
+    AlwaysYields steps (λ j. j) s all → (js : List ℕ) × Drains steps s js × (y ≡ gather join kept x js) → y ≡ gather join kept x all
+gather_always steps s all join kept x y always (js, run, h) = h ∙ ap (gather join kept x) (drained steps s all always js run)
 
 -- an iterator that hands out the first of what is left hands out all of it
 pub gather_drained : {S : Type 0} (rest : S → List ℕ) (s : S) (all : List ℕ) (join : ℕ → ℕ → ℕ) (kept : ℕ → ℕ) (x y : ℕ) →

@@ -1,12 +1,11 @@
 #![tactic(auto)]
 
 ghost use Rattle.std.specs.Prelude.{◌≡◌, ℕ, ◌<◌, ◌≤◌, true, false, not, List, [], ◌∷◌, length, take, drop, set, is_ok, ◌==◌, slice_index, slice_index_or, nat_lt};
-ghost use Rattle.std.specs.Iterator.{Drains, IsFinite};
-ghost use Rattle.rows.specs.Rows.{rows_left, only};
+ghost use Rattle.std.specs.Iterator.{AlwaysYields, Drains, IsFinite};
+ghost use Rattle.rows.specs.Rows.{only};
 ghost use Rattle.facts.specs.Flow.{Flow, Lawful, rows as rows_of, feeders, turns, enters, at, gather, incoming as incoming_of, yields, sweep as swept, solved};
 ghost use Rattle.facts.specs.Solving.{Listing, comer_sets, suffices, Tells, Answers};
 
-use rows::Ways;
 use sets::{NodeSet, clear};
 
 // A kind of fact over the rows of a program, and the laws under which its equations have a least solution.
@@ -19,9 +18,14 @@ pub trait FactKind {
     fn rows(&self) -> usize
         ensures { result ≡ rows_of (flow self.now) };
 
-    // The rows that row i may go on to.
-    fn ways(&self, i: usize) -> Ways
-        ensures { rows_left result ≡ slice_index_or (flow self.now).next i [] };
+    // Hands out rows, one after another.
+    type Ways: Iterator<Item = usize> + Drop;
+
+    // The rows that row i may go on to, however many.
+    fn ways(&self, i: usize) -> Self::Ways
+        ensures can { Self.Ways.can_next result }
+        ensures ends { IsFinite (Self.Ways.remaining result) }
+        ensures rows { AlwaysYields Self.Ways.next_gives (λ j. j) result (slice_index_or (flow self.now).next i []) };
 
     fn backward(&self) -> bool
         ensures { result ≡ (flow self.now).backward };

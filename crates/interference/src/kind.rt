@@ -19,6 +19,8 @@ impl<'a> FactKind for Liveness<'a> {
 
     ghost lawful = { λ k. liveness_lawful k.graph.rows.now };
 
+    type Ways = Ways;
+
     fn rows(&self) -> usize {
         self.graph.len()
     }

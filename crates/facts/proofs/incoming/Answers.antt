@@ -1,11 +1,10 @@
 use Rattle.std.proofs.Common.{◌≡◌, ℕ, min, List, [], length, get_or, take, sym, ap, ◌∙◌, rules}
-use Rattle.rows.specs.Rows.{rows_left}
 use Rattle.sets.specs.Rising.{rising}
 use Rattle.sets.specs.Walks.{left_of}
 use Rattle.sets.specs.Words.{joined}
 use Rattle.facts.specs.Flow.{rows, at, enters, gather}
 use Rattle.facts.proofs.Memory.{take_short, incoming_backward, incoming_told}
-use Rattle.facts.proofs.Walking.{gather_drained}
+use Rattle.facts.proofs.Walking.{gather_always, gather_drained}
 use Rattle.facts.proofs.incoming.Goals as goal
 
 pub returns-then-backward : goal.returns-then-backward
@@ -15,7 +14,7 @@ returns-then-backward g c = λ told.
     let i = c.args.i in
     let held : take c.min.result facts ≡ take (rows f) facts =
     ap (λ (m : ℕ). take m facts) (c.min.ensures ∙ ap (λ (n : ℕ). min n (length facts)) c.rows-n.ensures) ∙ take_short (rows f) facts in
-    gather_drained rows_left c.ways.result (get_or f.next i []) f.join (at f (take c.min.result facts)) (enters f i) c.gathered.result c.ways.ensures c.gathered.ensures
+    gather_always g.K.Ways.Iterator.next_gives c.ways.result (get_or f.next i []) f.join (at f (take c.min.result facts)) (enters f i) c.gathered.result c.ways.ensures.rows c.gathered.ensures
     ∙ ap (λ (xs : List ℕ). gather f.join (at f xs) (enters f i) (get_or f.next i [])) held
     ∙ incoming_backward f (at f ((take (rows f) facts))) i (sym c.if-backward.ensures)
 
