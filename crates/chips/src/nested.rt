@@ -43,6 +43,9 @@ impl Wiring for NestedWiring {
     ghost parts = { nested_parts };
 
     fn run(r: usize) -> Run {
+        if r >= Self::R {
+            return Run::EMPTY;
+        }
         Run {
             low: (r % 4 * 32) as u8 + LOW[r / 4],
             width: WIDTH[r / 4],
@@ -50,10 +53,10 @@ impl Wiring for NestedWiring {
     }
 
     fn belongs(r: usize, class: u8) -> bool {
-        CLASS[r / 4] == class
+        r < Self::R && class < 3 && CLASS[r / 4] == class
     }
 
     fn overlaps(r: usize, s: usize) -> bool {
-        r % 4 == s % 4 && (r / 4 == s / 4 || r / 4 < 2 || s / 4 < 2)
+        r < Self::R && s < Self::R && r % 4 == s % 4 && (r / 4 == s / 4 || r / 4 < 2 || s / 4 < 2)
     }
 }

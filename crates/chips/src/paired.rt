@@ -46,6 +46,9 @@ impl Wiring for PairedWiring {
     ghost parts = { paired_words };
 
     fn run(r: usize) -> Run {
+        if r >= Self::R {
+            return Run::EMPTY;
+        }
         let word = (word_of(r) * 32) as u8;
         if r < SINGLES {
             Run {
@@ -61,10 +64,17 @@ impl Wiring for PairedWiring {
     }
 
     fn belongs(r: usize, class: u8) -> bool {
-        if r < SINGLES { class < 2 } else { class == 2 }
+        if r < SINGLES {
+            class < 2
+        } else {
+            r < Self::R && class == 2
+        }
     }
 
     fn overlaps(r: usize, s: usize) -> bool {
-        word_of(r) == word_of(s) && (r == s || r >= SINGLES || s >= SINGLES)
+        r < Self::R
+            && s < Self::R
+            && word_of(r) == word_of(s)
+            && (r == s || r >= SINGLES || s >= SINGLES)
     }
 }

@@ -9,8 +9,8 @@ use registers::runs::Run;
 use registers::{Bank, RegisterFile};
 use std::marker::PhantomData;
 
-/// How the registers of a chip lie in its bits, and its tables of p and q. It is asked
-/// only of registers and classes that there are.
+/// How the registers of a chip lie in its bits, and its tables of p and q. For a number that
+/// is no register or no class the answer is no, or the run without a bit.
 pub trait Wiring {
     const R: usize;
 
@@ -30,18 +30,15 @@ pub trait Wiring {
 
     /// The bits of register `r`.
     fn run(r: usize) -> Run
-        requires { r < R }
-        ensures { (result.low ≡ described.low r) × (result.width ≡ described.width r) };
+        ensures { (result.low ≡ lowest described r) × (result.width ≡ (fenced described).width r) };
 
     /// Whether register `r` is of a class.
     fn belongs(r: usize, class: u8) -> bool
-        requires { (r < R) × (class < 3) }
-        ensures { result ≡ described.belongs r class };
+        ensures { result ≡ (fenced described).belongs r class };
 
     /// Whether a write to `r` may change `s`.
     fn overlaps(r: usize, s: usize) -> bool
-        requires { (r < R) × (s < R) }
-        ensures { result ≡ described.overlaps r s };
+        ensures { result ≡ (fenced described).overlaps r s };
 
     ghost as_described: { (described.count ≡ R) × (described.p ≡ P) × (described.q ≡ Q) };
 
@@ -67,13 +64,6 @@ impl<W: Wiring> Chip<W> {
             wiring: PhantomData,
         }
     }
-
-    // The bits of register r, none if there is no such register.
-    fn run(r: usize) -> Run
-        ensures { (result.low ≡ lowest W.described r) × (result.width ≡ (fenced W.described).width r) }
-    {
-        if r < W::R { W::run(r) } else { Run::EMPTY }
-    }
 }
 
 impl<W: Wiring> RegisterFile for Chip<W> {
@@ -88,15 +78,15 @@ impl<W: Wiring> RegisterFile for Chip<W> {
     ghost lawful = { λ x. lawful W.described W.tested };
 
     fn belongs(&self, r: usize, class: u8) -> bool {
-        r < W::R && class < 3 && W::belongs(r, class)
+        W::belongs(r, class)
     }
 
     fn overlaps(&self, r: usize, s: usize) -> bool {
-        r < W::R && s < W::R && W::overlaps(r, s)
+        W::overlaps(r, s)
     }
 
     fn width(&self, r: usize) -> u8 {
-        Self::run(r).width
+        W::run(r).width
     }
 
     fn p(&self, class: u8) -> u8 {
@@ -119,13 +109,13 @@ impl<W: Wiring> Bank for Chip<W> {
         ensures number { (result ≡ numbers W.described self.now.bits r) × (result < 2 ^ (fenced W.described).width r) }
         ensures wired { W.Parts (numbers W.described self.now.bits) }
     {
-        Self::run(r).fetch(self.bits)
+        W::run(r).fetch(self.bits)
     }
 
     fn write(&mut self, r: usize, v: u32)
         ensures written { Written (fenced W.described) r v (numbers W.described self.old.bits) (numbers W.described self.new.bits) }
         ensures exact { Leaves (fenced W.described) (lowest W.described) r v (numbers W.described self.old.bits) (numbers W.described self.new.bits) }
     {
-        self.bits = Self::run(r).store(self.bits, v);
+        self.bits = W::run(r).store(self.bits, v);
     }
 }
