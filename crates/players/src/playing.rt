@@ -164,10 +164,14 @@ impl Tape {
     fn take(&mut self) -> Result<u32, Outcome>
         ensures { (slots : ℕ → ℕ) → Means (taking_of (shared_of self.old slots).input (shared_of self.old slots)) result (shared_of self.new slots) }
     {
-        let input = self.input;
-        let x = input.as_slice().get(self.taken).ok_or(Outcome::Starved)?;
+        let x = self
+            .input
+            .as_slice()
+            .get(self.taken)
+            .copied()
+            .ok_or(Outcome::Starved)?;
         self.taken += 1;
-        Ok(*x)
+        Ok(x)
     }
 
     // An output row of x.
