@@ -241,7 +241,7 @@ impl Desk {
         ensures { OnOk result (out.new.items ≡ out.old.items ++ answer_to line.now) }
     {
         let word = first_word(line);
-        let Some(file) = read_file(word, &mut self.file)? else {
+        let Some(file) = read_file(&mut self.file, word)? else {
             return write_bad_case(out);
         };
         let verdict = self.memory.judge(program, file);
@@ -259,7 +259,7 @@ impl Desk {
         ensures { OnOk result (out.new.items ≡ out.old.items ++ reply_to line.now) }
     {
         let (word, behind) = split_word(line);
-        let Some(file) = read_file(word, &mut self.file)? else {
+        let Some(file) = read_file(&mut self.file, word)? else {
             return write_bad_case(out);
         };
         let Ok(chip) = Chip::try_from(first_word(behind)) else {

@@ -11,12 +11,20 @@ fn main(rt: HostRuntime) -> io::Result<()> {
     let mut record = Record::new();
     let mut program = Admitted::over(&mut record);
     let mut desk = Desk::new(heap);
-    let input = BufReader::new(heap, rt.stdin())?;
+    let mut input = BufReader::new(heap, rt.stdin())?;
     let mut output = BufWriter::new(heap, rt.stdout())?;
+    let mut line = Vec::new(heap);
     let mut text = Vec::new(heap);
-    for line in input.split(heap, b'\n') {
+    for _ in 0..u64::MAX {
+        line.clear();
+        if input.read_until(b'\n', &mut line)? == 0 {
+            break;
+        }
+        if line.ends_with(b"\n") {
+            let _ = line.pop();
+        }
         text.clear();
-        desk.answer(&mut program, line?.as_slice(), &mut text)?;
+        desk.answer(&mut program, line.as_slice(), &mut text)?;
         output.write_all(text.as_slice())?;
     }
     output.flush()

@@ -1,7 +1,9 @@
 #![tactic(auto)]
 
 ghost use Rattle.std.specs.Prelude.{◌≡◌, IfOk, option_map};
+ghost use Rattle.std.specs.Borrow.{sem, u8};
 ghost use Rattle.hexwords.specs.Hex.{first_word, after_word, spelled, file_of};
+ghost use Rattle.hexwords.specs.Room.{KeepsShown};
 
 use std::alloc::AllocError;
 
@@ -24,8 +26,9 @@ pub fn first_word(line: &[u8]) -> &[u8]
 }
 
 // The bytes that digits spell, two digits a byte, in the room of `file`.
-fn spell<'a>(digits: &[u8], file: &'a mut Vec<u8>) -> Result<Option<&'a [u8]>, AllocError>
-    ensures { IfOk result (λ bytes. option_map (λ b. b.now) bytes ≡ spelled digits.now) }
+fn spell<'a>(file: &'a mut Vec<u8>, digits: &[u8]) -> Result<Option<&'a [u8]>, AllocError>
+    ensures* after_borrow { sem 𝓛 (KeepsShown u8 file.entry result) }
+    ensures bytes { IfOk result (λ bytes. option_map (λ b. b.now) bytes ≡ spelled digits.now) }
 {
     file.resize(digits.len() / 2, 0)?;
     match hex::decode_to_slice(digits, file.as_mut_slice()) {
@@ -34,13 +37,18 @@ fn spell<'a>(digits: &[u8], file: &'a mut Vec<u8>) -> Result<Option<&'a [u8]>, A
     }
 }
 
-// The file that a word spells, in the room of `file`, the empty file as `-`.
-pub fn read_file<'a>(word: &[u8], file: &'a mut Vec<u8>) -> Result<Option<&'a [u8]>, AllocError>
-    ensures { IfOk result (λ bytes. option_map (λ b. b.now) bytes ≡ file_of word.now) }
+// The file that a word spells, in the room of `file`, which keeps it; the empty file as `-`.
+#[tactic(auto, using(crate::proofs::Spelling::file_dash))]
+pub fn read_file<'a>(file: &'a mut Vec<u8>, word: &[u8]) -> Result<Option<&'a [u8]>, AllocError>
+    ensures* after_borrow { sem 𝓛 (KeepsShown u8 file.entry result) }
+    ensures bytes { IfOk result (λ bytes. option_map (λ b. b.now) bytes ≡ file_of word.now) }
 {
     match word {
         [] => Ok(None),
-        [b'-'] => Ok(Some(&[])),
-        _ => spell(word, file),
+        [b'-'] => {
+            file.clear();
+            Ok(Some(file.as_slice()))
+        }
+        _ => spell(file, word),
     }
 }

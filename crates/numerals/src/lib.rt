@@ -1,6 +1,8 @@
 #![tactic(auto)]
 
 ghost use Rattle.std.specs.Prelude.{◌≡◌, ◌+◌, ◌-◌, ◌*◌, ◌^◌, ◌&&◌, IfOk, if◌then◌else◌, Some, None, nat_lt, option_map};
+ghost use Rattle.std.specs.Borrow.{sem, u32};
+ghost use Rattle.hexwords.specs.Room.{KeepsShown};
 ghost use Rattle.numerals.specs.Numerals.{is_digit, number_in, items_in, numbers_of, numbers_in};
 
 use std::alloc::AllocError;
@@ -28,8 +30,9 @@ pub fn number(word: &[u8]) -> Option<u32>
 }
 
 // The numbers between the commas of a word, in the room of `numbers`, if each is one.
-fn read_items<'a>(word: &[u8], numbers: &'a mut Vec<u32>) -> Result<Option<&'a [u32]>, AllocError>
-    ensures { IfOk result (λ all. option_map (λ n. n.now) all ≡ numbers_of (items_in word.now)) }
+fn read_items<'a>(numbers: &'a mut Vec<u32>, word: &[u8]) -> Result<Option<&'a [u32]>, AllocError>
+    ensures* after_borrow { sem 𝓛 (KeepsShown u32 numbers.entry result) }
+    ensures list { IfOk result (λ all. option_map (λ n. n.now) all ≡ numbers_of (items_in word.now)) }
 {
     numbers.clear();
     for item in word.split(|b| *b == b',') {
@@ -41,15 +44,19 @@ fn read_items<'a>(word: &[u8], numbers: &'a mut Vec<u32>) -> Result<Option<&'a [
     Ok(Some(numbers.as_slice()))
 }
 
-// The list of numbers that a word writes, in the room of `numbers`, none of them as `-`.
+// The list of numbers that a word writes, in the room of `numbers`, which keeps it; none of them as `-`.
 pub fn read_numbers<'a>(
-    word: &[u8],
     numbers: &'a mut Vec<u32>,
+    word: &[u8],
 ) -> Result<Option<&'a [u32]>, AllocError>
-    ensures { IfOk result (λ all. option_map (λ n. n.now) all ≡ numbers_in word.now) }
+    ensures* after_borrow { sem 𝓛 (KeepsShown u32 numbers.entry result) }
+    ensures list { IfOk result (λ all. option_map (λ n. n.now) all ≡ numbers_in word.now) }
 {
     match word {
-        [b'-'] => Ok(Some(&[])),
-        _ => read_items(word, numbers),
+        [b'-'] => {
+            numbers.clear();
+            Ok(Some(numbers.as_slice()))
+        }
+        _ => read_items(numbers, word),
     }
 }

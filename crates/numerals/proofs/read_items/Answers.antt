@@ -1,4 +1,4 @@
-use Rattle.std.proofs.Common.{rules, ◌≡◌, ℕ, List, ◌<◌, length, get_or, map, drop, Some, None, Option, vec_items, sym, ap, ◌∙◌, arith}
+use Rattle.std.proofs.Common.{rules, ◌≡◌, ℕ, List, ◌<◌, length, get_or, map, drop, Some, None, Option, vec_items, refl, sym, ap, ◌∙◌, arith}
 use borrow.Author.Tests.{tests}
 use Rattle.std.specs.List.{slice_split}
 use Rattle.std.specs.Iterator.{Yields}
@@ -28,8 +28,10 @@ returns-in_default c =
     let w = c.args.word.now in
     let items = slice_split is_comma w in
     let next = turn c.loop-item.yielded c.loop-item.yielded_by (YieldsList-at c.into_iter-item-iterator.ensures.into_iter_gives (YieldsList-from_slice_split _ is_comma w c.split-item-items.ensures.rest c.split-item-items.ensures.done c.split-item-items.ensures.closure (λ x r q k. search (rules, tests)))) c.in-Some.item c.in-Some.is c.next.ensures.steps in
+    let list =
     sym (numbers_stop (vec_items c.loop-item.numbers) items (length c.loop-item.yielded) c.in-Some.item.now next (sym c.in_default.ensures))
-    ∙ (c.loop-item.invariant ∙ ap numbers_of (sym (items_parts w)))
+    ∙ (c.loop-item.invariant ∙ ap numbers_of (sym (items_parts w))) in
+    ((refl, λ _. tt, tt), record { after_borrow = tt; list = list })
 
 pub loop-item-preserved : goal.loop-item-preserved
 loop-item-preserved c =
@@ -45,6 +47,8 @@ returns c =
     let xs = vec_items c.loop-item.numbers in
     let items = slice_split is_comma w in
     let all = end c.loop-item.yielded c.loop-item.yielded_by (YieldsList-at c.into_iter-item-iterator.ensures.into_iter_gives (YieldsList-from_slice_split _ is_comma w c.split-item-items.ensures.rest c.split-item-items.ensures.done c.split-item-items.ensures.closure (λ x r q k. search (rules, tests)))) c.in-None.is c.next.ensures.steps in
+    let list =
     ap (λ (ys : List ℕ). Some ys) c.as_slice.ensures.value
     ∙ (sym (ap (λ (rest : List (List ℕ)). onto xs (numbers_of rest)) (drop_all (length c.loop-item.yielded) items (omega (arith, all.1))) ∙ numbers_end xs)
-    ∙ (c.loop-item.invariant ∙ ap numbers_of (sym (items_parts w))))
+    ∙ (c.loop-item.invariant ∙ ap numbers_of (sym (items_parts w)))) in
+    ((refl, λ _. tt, c.as_slice.ensures.value), record { after_borrow = tt; list = list })
