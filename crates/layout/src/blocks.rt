@@ -4,7 +4,7 @@ use lists::Few;
 use rows::Row;
 
 // Blocks in a line, as far as there is room: the rows of all of them, and where each one starts.
-#[derive(Drop)]
+#[derive(Clone, Copy)]
 pub struct Layout {
     pub rows: Few<Row, 512>,
     pub starts: Few<u16, 512>,

@@ -5,7 +5,7 @@ use lists::Few;
 
 // A program while it is rewritten: its blocks, and the classes of variables and temporaries as far as there is room.
 // `next` is the number of the next temporary.
-#[derive(Drop)]
+#[derive(Clone, Copy)]
 pub struct Page {
     pub layout: Layout,
     pub next: u16,
