@@ -149,13 +149,12 @@ impl NodeSet {
     }
 
     // The members that pass a test.
-    pub fn filter<T: Fn(usize) -> bool>(self, test: T) -> NodeSet
-        requires { T.IsAlwaysCallable test }
-        ensures { (t : ℕ → Bool) → ((v : ℕ) (r : Bool) → T.post test v r → r ≡ t v) → (k : ℕ) → has result k ≡ (has self k && t k) }
+    pub fn filter<T: Test>(self, test: &T) -> NodeSet
+        ensures { (k : ℕ) → has result k ≡ (has self k && T.Test.passes test.now k) }
     {
         let mut kept = NodeSet::empty();
         for v in self {
-            if test(v) {
+            if test.passes(v) {
                 kept = kept.with(v);
             }
         }
@@ -168,6 +167,14 @@ impl NodeSet {
     {
         self.into_iter().next()
     }
+}
+
+// A test that can be asked of every number.
+pub trait Test {
+    ghost passes: { Self → ℕ → Bool };
+
+    fn passes(&self, v: usize) -> bool
+        ensures { result ≡ passes self.now v };
 }
 
 // The members of a set from the lowest on: those of word `at` and of the words after it.
