@@ -1,7 +1,8 @@
 #![tactic(auto)]
 
-ghost use Rattle.std.specs.Prelude.{◌≡◌, ℕ, ◌^◌, ◌<◌, min, Bool, ◌&&◌, length, ◌==◌, nat_lt, slice_index};
+ghost use Rattle.std.specs.Prelude.{◌≡◌, ℕ, ◌^◌, ◌<◌, min, Bool, ◌&&◌, length, ◌==◌, nat_le, nat_lt, slice_index};
 ghost use Rattle.std.specs.Iterator.{YieldsFirst, item_count};
+ghost use Rattle.counting.specs.Counting.{least};
 ghost use Rattle.sets.specs.Sets.{has, single as single_of, union as union_of, meet as meet_of, minus as minus_of, up_to, when, size as size_of};
 ghost use Rattle.sets.specs.Rising.{rising, lowest};
 ghost use Rattle.sets.specs.Words.{cleared};
@@ -166,6 +167,14 @@ impl NodeSet {
         ensures { result ≡ lowest self }
     {
         self.into_iter().next()
+    }
+
+    // The lowest member that is at least `from`, or 448.
+    pub fn next(&self, from: usize) -> usize
+        ensures { result ≡ least (λ k. nat_le from k && has self.now k) 448 }
+    {
+        let rest = self.minus(NodeSet::up_to(from));
+        rest.first().unwrap_or(NodeSet::CAPACITY)
     }
 }
 
