@@ -26,7 +26,7 @@ use registers::RegisterFile;
 use rounds::Ends;
 use rows::Row;
 use rows::lines::Lines;
-use sets::NodeSet;
+use sets::{NodeSet, Test};
 
 // Whether a row copies between variables of the source.
 fn is_copy(row: &Row, source: usize) -> bool
@@ -55,21 +55,30 @@ struct Merging<'a, F> {
     merged: &'a Merged,
 }
 
-impl<'a, F: RegisterFile> Merging<'a, F> {
-    // Whether neighbour k of the node that a pair becomes fails the test.
-    fn fails(&self, pair: Pair, k: usize) -> bool
-        ensures { result ≡ not (passes_of (F.RegisterFile.model self.now.weighing.file.now) (drawn self.now.weighing) k (has (renamed pair.low pair.high (beside_of (sets_of self.now.weighing.edges.now) k)))) }
-    {
-        let near = pair.renamed(self.weighing.beside(k));
+// Whether a neighbour of the node that a pair becomes fails the test.
+#[derive(Drop)]
+struct Heavy<'a, F: RegisterFile> {
+    weighing: Weighing<'a, F>,
+    pair: Pair,
+}
+
+impl<'a, F: RegisterFile> Test for Heavy<'a, F> {
+    ghost passes = { λ t k. not (passes_of (F.RegisterFile.model t.weighing.file.now) (drawn t.weighing) k (has (renamed t.pair.low t.pair.high (beside_of (sets_of t.weighing.edges.now) k)))) };
+
+    fn passes(&self, k: usize) -> bool {
+        let near = self.pair.renamed(self.weighing.beside(k));
         !self.weighing.passes(k, near)
     }
+}
 
+impl<'a, F: RegisterFile> Merging<'a, F> {
     // The neighbours of the node that a pair becomes which fail the test.
     fn heavy_beside(&self, pair: Pair) -> NodeSet
         ensures { (h : Graph) → h.classes ≡ classes_of self.now.weighing.variables.now → h.edges ≡ contracted pair.low pair.high (sets_of self.now.weighing.edges.now) → (k : ℕ) → has (members result) k ≡ heavy_of (F.RegisterFile.model self.now.weighing.file.now) h pair.low k }
     {
-        pair.beside(self.weighing.edges)
-            .filter(|k| self.fails(pair, k))
+        let weighing = self.weighing;
+        pair.beside(weighing.edges)
+            .filter(&Heavy { weighing, pair })
     }
 
     // The pair of nodes x and y, if they may be merged.

@@ -1,17 +1,17 @@
 -- The members of a set in rising order, and the walk over the words that gives them.
-use Rattle.std.proofs.Common.{◌≡◌, ℕ, zero, suc, ◌+◌, ◌-◌, ◌*◌, ◌/◌, ◌%◌, ◌<◌, ◌≤◌, Bool, true, false, ◌&&◌, ltb, ◌==◌, ◌≢◌, List, [], ◌∷◌, length, get_or, set, Some, None, Option, sym, refl, ap, ◌∙◌, ap₂, inl, inr, ◌⊎◌, arith, get_or-set_other, get_or-set_same}
-use Rattle.std.specs.Option.{MatchOption}
+use Rattle.std.proofs.Common.{◌≡◌, ℕ, zero, suc, ◌+◌, ◌-◌, ◌*◌, ◌/◌, ◌%◌, ◌<◌, ◌≤◌, min, Bool, true, false, not, ◌&&◌, ltb, ◌==◌, ◌≢◌, List, [], ◌∷◌, length, get_or, set, Some, None, Option, sym, refl, ap, ◌∙◌, ap₂, inl, inr, ◌⊎◌, arith, get_or-set_other, get_or-set_same}
+use Rattle.std.specs.Option.{MatchOption, unwrap_or}
 use Rattle.std.proofs.Math.Bool.{and_self}
-use Rattle.std.proofs.lemmas.Bool.{cases_lt, lt-ltb, le-ltb, and_right}
+use Rattle.std.proofs.lemmas.Bool.{cases_lt, lt-ltb, le-ltb, lt-leb, le-leb, and_right}
 use lib.Bits.{bit_and}
 use lib.Count.{count_trailing_zeros}
 use Rattle.counting.specs.Counting.{least}
-use Rattle.counting.proofs.Searches.{least_le, least_below, least_found}
-use Rattle.sets.specs.Sets.{has}
+use Rattle.counting.proofs.Searches.{least_le, least_below, least_found, least_ext}
+use Rattle.sets.specs.Sets.{has, minus, up_to}
 use Rattle.sets.specs.Words.{joined, IsWords}
 use Rattle.sets.specs.Rising.{passing, rising, lowest}
-use Rattle.sets.proofs.Members.{has_none, has_half, has_meet, digit, lowest_below, lowest_is}
-use Rattle.sets.proofs.Words.{word_piece, has_joined, lowest_lt}
+use Rattle.sets.proofs.Members.{has_none, has_half, has_meet, has_minus, has_up_to, digit, lowest_below, lowest_is}
+use Rattle.sets.proofs.Words.{word_piece, has_joined, lowest_lt, after as after_from}
 
 -- what none passes may be left out
 pub passing_skip : (t : ℕ → Bool) (d n b : ℕ) → ((k : ℕ) → b ≤ k → k < b + d → t k ≡ false) → passing t (d + n) b ≡ passing t n (b + d)
@@ -63,6 +63,21 @@ lowest_first x xs rest None e h = elim (passing_least (has x) 448) [
 lowest_first x xs rest (Some v) e h = elim (passing_least (has x) 448) [
   | inl p ↦ (let z : ◌≡◌ {A = List ℕ} [] (v ∷ rest) = sym p.1 ∙ sym e ∙ h in cc)
   | inr p ↦ (let f : least (has x) 448 ≡ v = ap (λ (ys : List ℕ). get_or ys 0 0) (sym p.1 ∙ sym e ∙ h) in rw (lt-ltb (least (has x) 448) 448 p.0) (ap Some (sym f)))
+]
+
+-- without the numbers below `from`, the lowest member is the lowest from there on
+pub lowest_from : (x from : ℕ) → least (has (minus x (up_to (min from 448)))) 448 ≡ least (after_from x from) 448
+lowest_from x from = least_ext (has (minus x (up_to (min from 448)))) (after_from x from) 448 (λ k l.
+    has_minus x (up_to (min from 448)) k ∙ ap (λ (b : Bool). has x k && not b) (has_up_to (min from 448) k) ∙ elim (cases_lt k from) [
+      | inl u ↦ rw (lt-ltb k (min from 448) (omega arith), lt-leb from k u) (grind arith)
+      | inr u ↦ rw (le-ltb k (min from 448) (omega arith), le-leb from k u) (grind arith)
+    ])
+
+-- the lowest member, or 448 where there is none
+pub lowest_or : (x : ℕ) → unwrap_or (lowest x) 448 ≡ least (has x) 448
+lowest_or x = elim (cases_lt (least (has x) 448) 448) [
+  | inl l ↦ rw (lt-ltb (least (has x) 448) 448 l)
+  | inr l ↦ rw (le-ltb (least (has x) 448) 448 l) (omega (arith, least_le (has x) 448))
 ]
 
 even_none : (m : ℕ) → m % 2 ≡ 0 → has m 0 ≡ false

@@ -1,5 +1,5 @@
 -- From the words of a node set to the set that they hold.
-use Rattle.std.proofs.Common.{◌≡◌, ℕ, zero, suc, ◌+◌, ◌-◌, ◌*◌, ◌/◌, ◌%◌, ◌^◌, ◌<◌, ◌≤◌, min, Bool, false, ◌&&◌, eqb, leb, List, [], ◌∷◌, length, get_or, set, sym, refl, ap, ◌∙◌, inl, inr, arith, length-set, get_or-set_other, get_or-set_same, pow-add}
+use Rattle.std.proofs.Common.{◌≡◌, ℕ, zero, suc, ◌+◌, ◌-◌, ◌*◌, ◌/◌, ◌%◌, ◌^◌, ◌<◌, ◌≤◌, min, Bool, false, ◌&&◌, eqb, leb, List, [], ◌∷◌, ◌++◌, length, get_or, drop, set, replicate, sym, refl, ap, ◌∙◌, inl, inr, arith, length-set, get_or-set_other, get_or-set_same, pow-add}
 use lib.Bits.{bit_and, bit_or, bit_xor, or_mod, and_mod, xor_mod, or_block, and_block, xor_block, or_lt, and_lt}
 use lib.Count.{count_trailing_zeros}
 use lib.Pow.{high, low, field, mod-mod-pow}
@@ -148,6 +148,25 @@ joined_with ws v seven lt = same_members 448 _ _ below_l below_r each
               | inr n ↦ ne_eqb _ _ n ∙ sym (ne_eqb k v (λ g. n (ap (λ (x : ℕ). x % 64) g)))
             ]
 
+-- equal words hold one set
+pub joined_ext : (xs ys : List ℕ) → length xs ≡ length ys → ((k : ℕ) → k < length xs → get_or xs k 0 ≡ get_or ys k 0) → joined xs ≡ joined ys
+unfolding joined
+joined_ext [] [] l h = refl
+joined_ext [] (y ∷ ys) l h = absurd (omega arith)
+joined_ext (x ∷ xs) [] l h = absurd (omega arith)
+joined_ext (x ∷ xs) (y ∷ ys) l h =
+    let here : x ≡ y = h 0 (omega arith) in rw (here, joined_ext xs ys (omega arith) (λ k b. h (suc k) (omega arith)))
+
+-- what holds one set has the same words
+pub joined_words : (xs ys : List ℕ) → length xs ≡ length ys → joined xs ≡ joined ys → (k : ℕ) → k < length xs → get_or xs k 0 % 2 ^ 64 ≡ get_or ys k 0 % 2 ^ 64
+unfolding joined
+joined_words [] ys l e k h = absurd (omega arith)
+joined_words (x ∷ xs) [] l e k h = absurd (omega arith)
+joined_words (x ∷ xs) (y ∷ ys) l e zero h = sym (low (joined xs) 64 (low_word x)) ∙ ap (λ (n : ℕ). n % 2 ^ 64) e ∙ low (joined ys) 64 (low_word y)
+joined_words (x ∷ xs) (y ∷ ys) l e (suc k) h =
+    let highs : joined xs ≡ joined ys = sym (high (joined xs) 64 (low_word x)) ∙ ap (λ (n : ℕ). n / 2 ^ 64) e ∙ high (joined ys) 64 (low_word y) in
+    joined_words xs ys (omega arith) highs k (omega arith)
+
 pub up_to_word : (n : ℕ) → up_to (min n 64) < 2 ^ 64
 up_to_word n = elim (cases_lt n 64) [
   | inl l ↦ (let e : min n 64 ≡ n = omega arith in rw e (omega (arith, pow_below n 64 l, pow_pos n)))
@@ -175,6 +194,10 @@ joined_up_to ws n seven h = same_members 448 (joined ws) (up_to (min n 448)) bel
           | inr a ↦ le-ltb (k % 64) (min (n - 64 * (k / 64)) 64) (omega arith) ∙ sym (has_up_to (min n 448) k ∙ le-ltb k (min n 448) (omega arith))
         ]
 
+-- the members of x from a number on
+abbrev pub after : ℕ → ℕ → ℕ → Bool
+after x from k = leb from k && has x k
+
 pub lowest_lt : (m n : ℕ) → (n ≡ 0 → ⊥) → n < 2 ^ m → m ≤ 64 → count_trailing_zeros 64 n < m
 lowest_lt m n ne lt le =
     elim (cases_lt (count_trailing_zeros 64 n) m) [
@@ -182,6 +205,43 @@ lowest_lt m n ne lt le =
       | inr l ↦ absurd (ne (same_members m n 0 lt (pow_pos m) (λ k h. lowest_below 64 n k (omega arith) ∙ sym (has_none k))))
     ]
 
+-- a piece of m numbers from base on with a member: its lowest is the lowest of all
+pub piece_found : (x from base m piece : ℕ) → (piece ≡ 0 → ⊥) → piece < 2 ^ m → m ≤ 64 → base + m ≤ 448 → from ≤ base →
+    ((k : ℕ) → k < base → after x from k ≡ false) → ((j : ℕ) → j < m → has x (base + j) ≡ has piece j) → base + count_trailing_zeros 64 piece ≡ least (after x from) 448
+piece_found x from base m piece ne lt le fits low below here =
+    let t = lowest_lt m piece ne lt le in
+    least_is (after x from) 448 (base + count_trailing_zeros 64 piece) (omega arith)
+    (λ k h. elim (cases_lt k base) [
+      | inl l ↦ below k l
+      | inr l ↦ (let e : base + (k - base) ≡ k = omega arith in and_right (leb from k) (has x k) (ap (has x) (sym e) ∙ here (k - base) (omega arith) ∙ lowest_below 64 piece (k - base) (omega arith)))
+    ])
+    (and_from (leb from (base + count_trailing_zeros 64 piece)) (has x (base + count_trailing_zeros 64 piece)) (le-leb from (base + count_trailing_zeros 64 piece) (omega arith)) (here (count_trailing_zeros 64 piece) t ∙ lowest_is 64 piece (omega arith)))
+
+-- a piece without a member
+pub piece_passed : (x from base m piece : ℕ) → piece ≡ 0 → ((k : ℕ) → k < base → after x from k ≡ false) → ((j : ℕ) → j < m → has x (base + j) ≡ has piece j) →
+    (k : ℕ) → k < base + m → after x from k ≡ false
+piece_passed x from base m piece z below here k h =
+    elim (cases_lt k base) [
+      | inl l ↦ below k l
+      | inr l ↦ (let e : base + (k - base) ≡ k = omega arith in and_right (leb from k) (has x k) (ap (has x) (sym e) ∙ here (k - base) (omega arith) ∙ ap (λ (n : ℕ). has n (k - base)) z ∙ has_none (k - base)))
+    ]
+
 -- the piece that a word is
 pub word_piece : (ws : List ℕ) (i j : ℕ) → j < 64 → has (joined ws) (64 * i + j) ≡ has (get_or ws i 0) j
 word_piece ws i j h = let d : (64 * i + j) / 64 ≡ i = omega arith in let m : (64 * i + j) % 64 ≡ j = omega arith in has_joined ws (64 * i + j) ∙ rw (d, m)
+
+-- the rest of a word from a number on
+pub rest_piece : (ws : List ℕ) (from j : ℕ) → j < 64 - from % 64 → has (joined ws) (from + j) ≡ has (get_or ws (from / 64) 0 / 2 ^ (from % 64)) j
+rest_piece ws from j h =
+    let d : (from + j) / 64 ≡ from / 64 = omega arith in let m : (from + j) % 64 ≡ from % 64 + j = omega arith in
+    has_joined ws (from + j) ∙ rw (d, m) (sym (has_shr (get_or ws (from / 64) 0) (from % 64) j))
+
+-- the members below a number do not count
+pub below_from : (x from k : ℕ) → k < from → after x from k ≡ false
+below_from x from k h = rw (lt-leb from k h)
+
+-- one set more is emptied
+pub cleared_more : {A : Type 0} (e : A) (ss : List A) (i : ℕ) → i < length ss → set (replicate i e ++ drop i ss) i e ≡ replicate (suc i) e ++ drop (suc i) ss
+cleared_more e [] i h = absurd (omega arith)
+cleared_more e (s ∷ ss) zero h = refl
+cleared_more e (s ∷ ss) (suc i) h = ap (λ xs. e ∷ xs) (cleared_more e ss i (omega arith))

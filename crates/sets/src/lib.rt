@@ -1,7 +1,8 @@
 #![tactic(auto)]
 
-ghost use Rattle.std.specs.Prelude.{◌≡◌, ℕ, ◌^◌, ◌<◌, min, Bool, ◌&&◌, length, ◌==◌, nat_lt, slice_index};
+ghost use Rattle.std.specs.Prelude.{◌≡◌, ℕ, ◌^◌, ◌<◌, min, Bool, ◌&&◌, length, ◌==◌, nat_le, nat_lt, slice_index};
 ghost use Rattle.std.specs.Iterator.{YieldsFirst, item_count};
+ghost use Rattle.counting.specs.Counting.{least};
 ghost use Rattle.sets.specs.Sets.{has, single as single_of, union as union_of, meet as meet_of, minus as minus_of, up_to, when, size as size_of};
 ghost use Rattle.sets.specs.Rising.{rising, lowest};
 ghost use Rattle.sets.specs.Words.{cleared};
@@ -149,13 +150,12 @@ impl NodeSet {
     }
 
     // The members that pass a test.
-    pub fn filter<T: Fn(usize) -> bool>(self, test: T) -> NodeSet
-        requires { T.IsAlwaysCallable test }
-        ensures { (t : ℕ → Bool) → ((v : ℕ) (r : Bool) → T.post test v r → r ≡ t v) → (k : ℕ) → has result k ≡ (has self k && t k) }
+    pub fn filter<T: Test>(self, test: &T) -> NodeSet
+        ensures { (k : ℕ) → has result k ≡ (has self k && T.Test.passes test.now k) }
     {
         let mut kept = NodeSet::empty();
         for v in self {
-            if test(v) {
+            if test.passes(v) {
                 kept = kept.with(v);
             }
         }
@@ -168,6 +168,22 @@ impl NodeSet {
     {
         self.into_iter().next()
     }
+
+    // The lowest member that is at least `from`, or 448.
+    pub fn next(&self, from: usize) -> usize
+        ensures { result ≡ least (λ k. nat_le from k && has self.now k) 448 }
+    {
+        let rest = self.minus(NodeSet::up_to(from));
+        rest.first().unwrap_or(NodeSet::CAPACITY)
+    }
+}
+
+// A test that can be asked of every number.
+pub trait Test {
+    ghost passes: { Self → ℕ → Bool };
+
+    fn passes(&self, v: usize) -> bool
+        ensures { result ≡ passes self.now v };
 }
 
 // The members of a set from the lowest on: those of word `at` and of the words after it.

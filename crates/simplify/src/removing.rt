@@ -10,7 +10,7 @@ ghost use Rattle.simplify.specs.Lightness.{Light};
 use graphs::Weighing;
 use registers::RegisterFile;
 use rounds::{Offer, Removed};
-use sets::NodeSet;
+use sets::{NodeSet, Test};
 
 // Nodes while they are removed: the costs of those of source variables, the nodes that are left, and of these the light
 // ones, which pass the test. The light nodes are kept, so that a removal weighs only the neighbours that it eases.
@@ -25,11 +25,22 @@ pub struct Removing<'a, F: RegisterFile> {
     ghost lit: { Light (F.RegisterFile.model weighing.file.now) (drawn weighing) (members left) (members light) },
 }
 
-// Whether v is left and passes the test.
-fn removable<F: RegisterFile>(weighing: &Weighing<F>, left: NodeSet, v: usize) -> bool
-    ensures { result ≡ removable_of (F.RegisterFile.model weighing.now.file.now) (drawn weighing.now) (members left) v }
-{
-    left.contains(v) && weighing.passes(v, weighing.beside(v).meet(left))
+// Whether a node is left and passes the test.
+#[derive(Drop)]
+struct Removable<'a, F: RegisterFile> {
+    weighing: Weighing<'a, F>,
+    left: NodeSet,
+}
+
+impl<'a, F: RegisterFile> Test for Removable<'a, F> {
+    ghost passes = { λ t v. removable_of (F.RegisterFile.model t.weighing.file.now) (drawn t.weighing) (members t.left) v };
+
+    fn passes(&self, v: usize) -> bool {
+        self.left.contains(v)
+            && self
+                .weighing
+                .passes(v, self.weighing.beside(v).meet(self.left))
+    }
 }
 
 // The nodes that are left and pass the test.
@@ -37,15 +48,25 @@ fn light_nodes<F: RegisterFile>(weighing: &Weighing<F>, left: NodeSet) -> NodeSe
     ensures { Light (F.RegisterFile.model weighing.now.file.now) (drawn weighing.now) (members left) (members result) }
 {
     let all = NodeSet::up_to(weighing.variables.count);
-    all.filter(|v| removable(weighing, left, v))
+    let weighing = *weighing;
+    all.filter(&Removable { weighing, left })
 }
 
-// Whether v had `gone` for a neighbour and passes the test now.
-fn eased<F: RegisterFile>(weighing: &Weighing<F>, left: NodeSet, gone: usize, v: usize) -> bool
-    ensures { result ≡ (has (neighbours (drawn weighing.now) v) gone && passes_of (F.RegisterFile.model weighing.now.file.now) (drawn weighing.now) v (remaining (drawn weighing.now) (members left) v)) }
-{
-    let near = weighing.beside(v);
-    near.contains(gone) && weighing.passes(v, near.meet(left))
+// Whether a node had `gone` for a neighbour and passes the test now.
+#[derive(Drop)]
+struct Eased<'a, F: RegisterFile> {
+    weighing: Weighing<'a, F>,
+    left: NodeSet,
+    gone: usize,
+}
+
+impl<'a, F: RegisterFile> Test for Eased<'a, F> {
+    ghost passes = { λ t v. has (neighbours (drawn t.weighing) v) t.gone && passes_of (F.RegisterFile.model t.weighing.file.now) (drawn t.weighing) v (remaining (drawn t.weighing) (members t.left) v) };
+
+    fn passes(&self, v: usize) -> bool {
+        let near = self.weighing.beside(v);
+        near.contains(self.gone) && self.weighing.passes(v, near.meet(self.left))
+    }
 }
 
 impl<'a, F: RegisterFile> Removing<'a, F> {
@@ -129,10 +150,14 @@ impl<'a, F: RegisterFile> Removing<'a, F> {
         requires { members left ≡ minus_of (members self.now.left) (single gone) }
         ensures { Light (F.RegisterFile.model self.now.weighing.file.now) (drawn self.now.weighing) (members left) (members result) }
     {
-        let weighing = &self.weighing;
+        let weighing = self.weighing;
         let all = NodeSet::up_to(weighing.variables.count);
         let heavy = left.minus(self.light).meet(all);
-        let lighter = heavy.filter(|v| eased(weighing, left, gone, v));
+        let lighter = heavy.filter(&Eased {
+            weighing,
+            left,
+            gone,
+        });
         self.light.without(gone).union(lighter)
     }
 

@@ -1,4 +1,4 @@
-use Rattle.std.proofs.Common.{ℕ, Bool, not, ◌&&◌, sym, ap, ◌∙◌, rules, of_calls}
+use Rattle.std.proofs.Common.{ℕ, Bool, not, ◌&&◌, sym, ap, ◌∙◌}
 use Rattle.sets.specs.Sets.{has}
 use Rattle.sets.specs.Words.{sets_of}
 use Rattle.rounds.specs.Interference.{Graph, beside}
@@ -17,7 +17,7 @@ returns g c = λ h a b k.
     let es = sets_of c.args.self.now.weighing.edges.now in
     let gr : Graph = drawn c.args.self.now.weighing in
     let t : ℕ → Bool = λ j. not (passes m gr j (has (renamed p.low p.high (beside es j)))) in
-    c.filter.ensures t (λ v r called. search (rules, of_calls)) k
+    c.filter.ensures k
     ∙ ap (λ (z : ℕ). has z k && t k) c.beside.ensures
     ∙ ap (λ (b : Bool). has (near_both p.low p.high es) k && not b) (sym (passes_alike m h gr a k (has (renamed p.low p.high (beside es k)))))
     ∙ sym (heavy_is m h p.low p.high es p.two b k)

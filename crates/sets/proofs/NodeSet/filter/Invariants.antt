@@ -6,4 +6,4 @@ use Rattle.sets.proofs.NodeSet.filter.Given as goal
 
 abbrev pub invariant-loop-v : goal.invariant-loop-v
 invariant-loop-v g l =
-    (t : ℕ → Bool) → ((v : ℕ) (r : Bool) → goal.T-post g l.test v r → r ≡ t v) → chosen t l.kept (left_of l.v-iterator) ≡ chosen t 0 (rising l.fn.self)
+    let t : ℕ → Bool = g.T.Test.passes l.test in chosen t l.kept (left_of l.v-iterator) ≡ chosen t 0 (rising l.fn.self)

@@ -1,28 +1,20 @@
-use Rattle.std.proofs.Common.{◌≡◌, ℕ, ◌*◌, get_or, refl, ap, ◌∙◌, arith}
-use lib.Count.{ones-le}
+use Rattle.std.proofs.Common.{refl, ◌∙◌, ap, arith, rules}
 use Rattle.counting.specs.Counting.{sum}
 use Rattle.sets.specs.Sets.{size}
-use Rattle.sets.specs.Words.{joined}
-use Rattle.sets.proofs.Orders.{size_capped}
-use Rattle.sets.proofs.Sizes.{size_more}
+use Rattle.sets.proofs.Sizes.{counted_fits, counted_more, counted_all}
 use Rattle.sets.proofs.NodeSet.len.Goals as goal
 
 pub loop-w-init : goal.loop-w-init
 unfolding sum
-loop-w-init c = refl
+loop-w-init c = record { so_far = refl }
 
 pub overflow_add-n : goal.overflow_add-n
-overflow_add-n c =
-    let ws = c.self.inside.words in
-    let i = c.loop-w.w-index in
-    omega (arith, c.loop-w.invariant, c.self.invariant.0, size_capped (64 * i) (joined ws), ones-le 64 (get_or ws i 0) (c.self.invariant.1 i))
+overflow_add-n c = let few = counted_fits _ _ _ c.loop-w.invariant (omega (arith, c.self.invariant.0)) (search rules) in omega (arith, few)
 
 pub loop-w-preserved : goal.loop-w-preserved
-loop-w-preserved c =
-    let i = c.loop-w.w-index in
-    omega (arith, size_more c.self.inside.words i (c.self.invariant.1 i), c.loop-w.invariant)
+loop-w-preserved c = counted_more _ _ _ c.loop-w.invariant (search rules)
 
 pub returns : goal.returns
 returns c =
-    let e : 64 * c.loop-w.w-index ≡ 448 = omega (arith, c.self.invariant.0) in
-    c.loop-w.invariant ∙ ap (λ (n : ℕ). size n (joined c.self.inside.words)) e ∙ ap (size 448) c.self.view_is
+    counted_all _ c.self.inside.words _ _ c.loop-w.invariant (omega (arith, c.self.invariant.0)) (omega (arith, c.self.invariant.0)) c.self.invariant.0 refl refl refl refl refl refl refl
+    ∙ ap (size 448) c.self.view_is

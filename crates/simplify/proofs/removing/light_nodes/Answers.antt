@@ -1,4 +1,4 @@
-use Rattle.std.proofs.Common.{◌≡◌, ℕ, min, Bool, ◌&&◌, ltb, sym, ap, ◌∙◌, arith, rules, of_calls}
+use Rattle.std.proofs.Common.{◌≡◌, ℕ, min, Bool, ◌&&◌, ltb, sym, ap, ◌∙◌, arith}
 use Rattle.sets.specs.Sets.{has, up_to}
 use Rattle.sets.specs.Words.{members}
 use Rattle.sets.proofs.Members.{has_up_to}
@@ -13,5 +13,5 @@ returns g c = λ k.
     let n : ℕ = w.variables.now.count in
     let few : min n 448 ≡ n = omega (arith, w.variables.now.few.1) in
     let t : ℕ → Bool = removable (g.F.RegisterFile.model w.file.now) (drawn w) (members c.args.left) in
-    c.filter.ensures t (λ v r h. search (rules, of_calls)) k
+    c.filter.ensures k
     ∙ ap (λ (b : Bool). b && t k) (ap (λ (x : ℕ). has x k) (c.up_to-all.ensures ∙ ap up_to few) ∙ has_up_to n k ∙ ap (ltb k) (sym (drawn_length w.variables.now)))
