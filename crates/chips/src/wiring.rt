@@ -69,13 +69,13 @@ impl<W: Wiring> Chip<W> {
 impl<W: Wiring> RegisterFile for Chip<W> {
     const R: usize = W::R;
 
-    ghost R = { W.R };
-
     ghost model = { λ _. fenced W.described };
 
-    ghost sized = { λ x. W.as_described.0 };
-
     ghost lawful = { λ x. lawful W.described W.tested };
+
+    fn registers(&self) -> usize {
+        W::R
+    }
 
     fn belongs(&self, r: usize, class: u8) -> bool {
         W::belongs(r, class)

@@ -25,7 +25,7 @@ fn write_register<F: RegisterFile, W: fmt::Write>(
         let name = if file.belongs(r, class) { name } else { "" };
         write!(f, "{name:<5}")?;
     }
-    for s in (0..F::R).filter(|&s| file.overlaps(r, s)) {
+    for s in (0..file.registers()).filter(|&s| file.overlaps(r, s)) {
         write!(f, " {s}")?;
     }
     writeln!(f)
@@ -49,7 +49,7 @@ fn write_class<F: RegisterFile, W: fmt::Write>(
 impl<F: RegisterFile> fmt::Display for Listing<F> {
     fn fmt<W: fmt::Write>(&self, f: &mut fmt::Formatter<W>) -> fmt::Result {
         writeln!(f, "register  bits  class           overlaps")?;
-        for r in 0..F::R {
+        for r in 0..self.0.registers() {
             write_register(&self.0, r, f)?;
         }
         writeln!(f)?;

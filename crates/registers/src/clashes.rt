@@ -15,5 +15,7 @@ pub fn count_clashes<F: RegisterFile>(file: &F, r: usize, class: u8) -> u8
     ensures few { FewClashes (F.RegisterFile.model file.now) }
     ensures attained { QAttained (F.RegisterFile.model file.now) }
 {
-    (0..F::R).filter(|&s| clash(file, r, s, class)).count() as u8
+    (0..file.registers())
+        .filter(|&s| clash(file, r, s, class))
+        .count() as u8
 }

@@ -12,9 +12,11 @@ pub trait RegisterFile {
     /// The number of registers.
     const R: usize;
 
-    ghost R: { ℕ };
-
     ghost model: { Self → Model };
+
+    /// The number of registers of this file, of which the laws speak.
+    fn registers(&self) -> usize
+        ensures { result ≡ (model self.now).count };
 
     /// Whether register `r` is of a class.
     fn belongs(&self, r: usize, class: u8) -> bool
@@ -35,15 +37,6 @@ pub trait RegisterFile {
     /// The most registers of class `b` that one of class `c` overlaps.
     fn q(&self, b: u8, c: u8) -> u8
         ensures { result ≡ (model self.now).q b c };
-
-    /// `R` again, for those who hold a file and do not name its type.
-    final fn registers(&self) -> usize
-        ensures { result ≡ (model self.now).count }
-    {
-        Self::R
-    }
-
-    ghost sized: { (x : Self) → (model x).count ≡ R };
 
     ghost lawful: { (x : Self) → Lawful (model x) };
 }

@@ -60,7 +60,7 @@ impl<'a, F: RegisterFile> Occupants<'a, F> {
         ensures file { self.new.file ≡ self.old.file }
     {
         let file = self.file;
-        for (r, set) in self.sets[..F::R].iter_mut().enumerate() {
+        for (r, set) in self.sets[..file.registers()].iter_mut().enumerate() {
             *set = placed(*set, v, file.overlaps(r, s));
         }
     }
