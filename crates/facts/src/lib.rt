@@ -1,6 +1,6 @@
 #![tactic(auto)]
 
-ghost use Rattle.std.specs.Prelude.{◌≡◌, ℕ, ◌<◌, ◌≤◌, true, false, not, List, [], ◌∷◌, length, take, drop, set, is_ok, ◌==◌, slice_index, slice_index_or, nat_lt};
+ghost use Rattle.std.specs.Prelude.{◌≡◌, ℕ, ◌<◌, ◌≤◌, true, false, not, List, [], length, take, drop, set, is_ok, ◌==◌, slice_index, slice_index_or, nat_lt};
 ghost use Rattle.std.specs.Iterator.{AlwaysYields, Drains, IsFinite};
 ghost use Rattle.rows.specs.Rows.{only};
 ghost use Rattle.facts.specs.Flow.{Flow, Lawful, rows as rows_of, feeders, turns, enters, at, gather, incoming as incoming_of, yields, sweep as swept, solved};
