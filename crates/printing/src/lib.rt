@@ -2,13 +2,16 @@
 
 pub mod calls;
 
-ghost use Rattle.std.specs.Prelude.{◌≡◌, ℕ, List, ◌++◌, decimal, OnOk};
+ghost use Rattle.std.specs.Prelude.{◌≡◌, ℕ, ◌+◌, ◌<◌, ◌≤◌, List, ◌++◌, length, drop, decimal, OnOk};
 ghost use Rattle.printing.specs.Texts.{joined, numbers_text, home_letter as home_letter_of, mark_letter as mark_letter_of, place_text, places_text, item, items_of, row_text, rows_text, compiled_text};
 
 use compiling::{Home, Place};
-use itoa::Buffer;
+use itoa::{Buffer, write_digits};
 use rows::Row;
 use std::alloc::AllocError;
+
+// The text of a row: eight items of at most five digits, each behind a comma.
+const ROW_ROOM: usize = 48;
 
 // What is told as text.
 pub trait Told: Copy {
@@ -140,11 +143,34 @@ fn items(row: Row) -> [Option<u16>; 8]
     ]
 }
 
+// Puts an item before the place `end` of a text, and answers where it starts.
+fn put_item(number: Option<u16>, text: &mut [u8], end: usize) -> usize
+    requires { (5 ≤ end) × (end ≤ length text.old) }
+    ensures within { (result < end) × (end ≤ result + 5) }
+    ensures written { drop result text.new ≡ item number ++ drop end text.old }
+{
+    match number {
+        Some(n) => write_digits(n as u64, text, end),
+        None => {
+            text[end - 1] = b'-';
+            end - 1
+        }
+    }
+}
+
+// The text of a row is put together from its last item back, so that `out` grows once a row.
 impl Told for Row {
     ghost text = { row_text };
 
     fn tell(self, out: &mut Vec<u8>) -> Result<(), AllocError> {
-        write_list(&items(self), b',', b"", out)
+        let items = items(self);
+        let mut text = [0; ROW_ROOM];
+        let mut start = ROW_ROOM;
+        for i in (0..items.len()).rev() {
+            start = put_item(items[i], &mut text, start) - 1;
+            text[start] = b',';
+        }
+        out.extend_from_slice(&text[start + 1..])
     }
 }
 
