@@ -6,9 +6,9 @@ use Rattle.std.proofs.lemmas.List.{length_push, drop_all}
 use Rattle.std.proofs.lemmas.Iterator.{YieldsList}
 use Rattle.std.proofs.lemmas.Iterator.Consumers.{YieldsList-at, YieldsList-turn, YieldsList-end}
 use Rattle.std.proofs.lemmas.Iterator.Splits.{YieldsList-from_slice_split}
-use Rattle.hexwords.proofs.Spelling.{onto}
+use Rattle.hexwords.proofs.Spelling.{onto, onto_none}
 use Rattle.numerals.specs.Numerals.{numbers_of}
-use Rattle.numerals.proofs.Items.{is_comma, items_parts, numbers_more, numbers_stop, numbers_end, onto_none}
+use Rattle.numerals.proofs.Items.{is_comma, items_parts, numbers_more, numbers_stop, numbers_end}
 use Rattle.numerals.proofs.read_items.Goals as goal
 
 pub loop-item-init : goal.loop-item-init
