@@ -136,3 +136,11 @@ unfolding file_of
 file_more [] l = absurd (omega arith)
 file_more (b ∷ []) l = absurd (omega arith)
 file_more (b ∷ (d ∷ bs)) l = refl
+
+-- a word of two digits
+pub file_pair : (w : List ℕ) → length w ≡ 2 → spelled (get_or w 0 0 ∷ (get_or w 1 0 ∷ [])) ≡ file_of w
+unfolding file_of
+file_pair [] e = absurd (omega arith)
+file_pair (b ∷ []) e = absurd (omega arith)
+file_pair (b ∷ (d ∷ [])) e = refl
+file_pair (b ∷ (d ∷ (x ∷ bs))) e = absurd (omega arith)
