@@ -144,3 +144,12 @@ file_pair [] e = absurd (omega arith)
 file_pair (b ∷ []) e = absurd (omega arith)
 file_pair (b ∷ (d ∷ [])) e = refl
 file_pair (b ∷ (d ∷ (x ∷ bs))) e = absurd (omega arith)
+
+-- a word of three digits
+pub file_triple : (w : List ℕ) → length w ≡ 3 → spelled (get_or w 0 0 ∷ (get_or w 1 0 ∷ (get_or w 2 0 ∷ []))) ≡ file_of w
+unfolding file_of
+file_triple [] e = absurd (omega arith)
+file_triple (b ∷ []) e = absurd (omega arith)
+file_triple (b ∷ (d ∷ [])) e = absurd (omega arith)
+file_triple (b ∷ (d ∷ (x ∷ []))) e = refl
+file_triple (b ∷ (d ∷ (x ∷ (y ∷ bs)))) e = absurd (omega arith)
