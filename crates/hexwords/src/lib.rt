@@ -38,7 +38,7 @@ fn spell<'a>(file: &'a mut Vec<u8>, digits: &[u8]) -> Result<Option<&'a [u8]>, A
 }
 
 // The file that a word spells, in the room of `file`, which keeps it; the empty file as `-`.
-#[tactic(auto, using(crate::proofs::Spelling::file_dash))]
+#[tactic(auto, using(crate::proofs::Spelling::file_empty, crate::proofs::Spelling::file_dash, crate::proofs::Spelling::file_pair, crate::proofs::Spelling::file_triple, crate::proofs::Spelling::file_spelled))]
 pub fn read_file<'a>(file: &'a mut Vec<u8>, word: &[u8]) -> Result<Option<&'a [u8]>, AllocError>
     ensures* after_borrow { sem 𝓛 (KeepsShown u8 file.entry result) }
     ensures bytes { IfOk result (λ bytes. option_map (λ b. b.now) bytes ≡ file_of word.now) }

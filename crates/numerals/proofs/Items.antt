@@ -44,7 +44,3 @@ numbers_stop xs items k item h e =
 pub numbers_end : (xs : List ℕ) → onto xs (numbers_of []) ≡ Some xs
 unfolding numbers_of
 numbers_end xs = ap (λ (ys : List ℕ). Some ys) (append-nil xs)
-
-pub onto_none : (rest : Option (List ℕ)) → onto [] rest ≡ rest
-onto_none None = refl
-onto_none (Some ys) = refl

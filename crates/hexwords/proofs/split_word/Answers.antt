@@ -1,4 +1,4 @@
-use Rattle.std.proofs.Common.{rules, ◌≡◌, ◌-◌, ◌∙◌, ap, ℕ, List, Option, unwrap_or, length, take, drop}
+use Rattle.std.proofs.Common.{rules, arith, ◌≡◌, ◌-◌, ◌∙◌, ap, ℕ, List, Option, unwrap_or, length, take, drop}
 use borrow.Author.Tests.{tests}
 use Rattle.std.specs.List.{position}
 use Rattle.std.proofs.lemmas.List.{take_rest}
@@ -21,7 +21,7 @@ returns-clause-word c =
     let other : c.position-start.result ≡ position is_other line = position_from_yields_List is_other _ _ _ c.position-start.ensures.ran (YieldsList-from_slice line c.iter.ensures.rest) (λ x b q k. search (rules, tests)) in
     let space : c.position-end.result ≡ position is_space behind = position_from_yields_List is_space _ _ _ c.position-end.ensures.ran (YieldsList-from_slice behind c.iter-2.ensures.rest) (λ x b q k. search (rules, tests)) in
     c.split_at.ensures.front
-    ∙ (ap (λ (n : ℕ). take n behind) (c.unwrap_or-2.ensures ∙ ap (λ (o : Option ℕ). unwrap_or o (length behind)) space)
+    ∙ (ap (λ (n : ℕ). take n behind) (omega (arith, c.unwrap_or-2.ensures ∙ ap (λ (o : Option ℕ). unwrap_or o (length behind)) space))
     ∙ (up_to_found behind ∙ ap up_to_space (rest line start _ c.unwrap_or.ensures other)))
 
 pub returns-clause-behind : goal.returns-clause-behind
@@ -32,5 +32,5 @@ returns-clause-behind c =
     let other : c.position-start.result ≡ position is_other line = position_from_yields_List is_other _ _ _ c.position-start.ensures.ran (YieldsList-from_slice line c.iter.ensures.rest) (λ x b q k. search (rules, tests)) in
     let space : c.position-end.result ≡ position is_space behind = position_from_yields_List is_space _ _ _ c.position-end.ensures.ran (YieldsList-from_slice behind c.iter-2.ensures.rest) (λ x b q k. search (rules, tests)) in
     c.split_at.ensures.back
-    ∙ (ap (λ (n : ℕ). drop n behind) (c.unwrap_or-2.ensures ∙ ap (λ (o : Option ℕ). unwrap_or o (length behind)) space)
+    ∙ (ap (λ (n : ℕ). drop n behind) (omega (arith, c.unwrap_or-2.ensures ∙ ap (λ (o : Option ℕ). unwrap_or o (length behind)) space))
     ∙ (from_found behind ∙ ap from_space (rest line start _ c.unwrap_or.ensures other)))

@@ -6,9 +6,9 @@ use Rattle.std.proofs.lemmas.List.{length_push, drop_all}
 use Rattle.std.proofs.lemmas.Iterator.{YieldsList}
 use Rattle.std.proofs.lemmas.Iterator.Consumers.{YieldsList-at, YieldsList-turn, YieldsList-end}
 use Rattle.std.proofs.lemmas.Iterator.Splits.{YieldsList-from_slice_split}
-use Rattle.hexwords.proofs.Spelling.{onto}
+use Rattle.hexwords.proofs.Spelling.{onto, onto_none}
 use Rattle.numerals.specs.Numerals.{numbers_of}
-use Rattle.numerals.proofs.Items.{is_comma, items_parts, numbers_more, numbers_stop, numbers_end, onto_none}
+use Rattle.numerals.proofs.Items.{is_comma, items_parts, numbers_more, numbers_stop, numbers_end}
 use Rattle.numerals.proofs.read_items.Goals as goal
 
 pub loop-item-init : goal.loop-item-init
@@ -29,7 +29,7 @@ returns-in_default c =
     let items = slice_split is_comma w in
     let next = turn c.loop-item.yielded c.loop-item.yielded_by (YieldsList-at c.into_iter-item-iterator.ensures.into_iter_gives (YieldsList-from_slice_split _ is_comma w c.split-item-items.ensures.rest c.split-item-items.ensures.done c.split-item-items.ensures.closure (λ x r q k. search (rules, tests)))) c.in-Some.item c.in-Some.is c.next.ensures.steps in
     let list =
-    sym (numbers_stop (vec_items c.loop-item.numbers) items (length c.loop-item.yielded) c.in-Some.item.now next (sym c.in_default.ensures))
+    sym (numbers_stop (vec_items c.loop-item.numbers) items (length c.loop-item.yielded) c.in-Some.item.now next (search rules))
     ∙ (c.loop-item.invariant ∙ ap numbers_of (sym (items_parts w))) in
     ((refl, λ _. tt, tt), record { after_borrow = tt; list = list })
 
@@ -39,7 +39,7 @@ loop-item-preserved c =
     let items = slice_split is_comma w in
     let next = turn c.loop-item.yielded c.loop-item.yielded_by (YieldsList-at c.into_iter-item-iterator.ensures.into_iter_gives (YieldsList-from_slice_split _ is_comma w c.split-item-items.ensures.rest c.split-item-items.ensures.done c.split-item-items.ensures.closure (λ x r q k. search (rules, tests)))) c.in-Some.item c.in-Some.is c.next.ensures.steps in
     (λ k. onto (c.in_ok-push.ensures.items k) (numbers_of (drop (length_push c.loop-item.yielded c.in-Some.item k) items)))
-    ∙ (sym (numbers_more (vec_items c.loop-item.numbers) items (length c.loop-item.yielded) c.in-Some.item.now _ next (sym c.in-Some-number.ensures)) ∙ c.loop-item.invariant)
+    ∙ (sym (numbers_more (vec_items c.loop-item.numbers) items (length c.loop-item.yielded) c.in-Some.item.now _ next (search rules)) ∙ c.loop-item.invariant)
 
 pub returns : goal.returns
 returns c =
