@@ -1,4 +1,4 @@
-ghost use Rattle.std.specs.Prelude.{◌≤◌, length};
+ghost use Rattle.std.specs.Prelude.{◌≡◌, ◌≤◌, length};
 
 use compiling::Place;
 use lists::Few;
@@ -6,7 +6,7 @@ use rows::Row;
 use source::program::Source;
 
 // A program on its way from source to code: its rows, the classes of its variables, and the places of the source's
-// variables. A coloured one has the register of each variable too.
+// variables. A coloured one has the register of each variable too; before that, what stands there counts for nothing.
 #[derive(Clone, Copy)]
 pub struct Draft {
     pub source: Source,
@@ -17,4 +17,5 @@ pub struct Draft {
     pub slots: u8,
     pub places: Few<Place, 64>,
     ghost few: { (length rows ≤ 512) × (length classes ≤ 448) },
+    ghost whole: { (length registers ≡ length classes) × (length places ≡ source.vars) },
 }

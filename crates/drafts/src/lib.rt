@@ -26,7 +26,7 @@ impl Draft {
             source,
             rows: Few::of(&source.rows[..source.count]),
             classes: Few::of(&source.classes[..source.vars]),
-            registers: Few::new(),
+            registers: Few::of(&[0; 64][..source.vars]),
             rounds: 0,
             slots: 0,
             places: Few::of(&[Place::OPEN; 64][..source.vars]),

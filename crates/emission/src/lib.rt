@@ -30,7 +30,8 @@ pub fn colour(draft: &Draft, end: &Colouring) -> Draft
 
 // The register of each variable: that of its node.
 fn registers_of(draft: &Draft, end: &Colouring) -> Few<u8, 448>
-    ensures { result ≡ map (node_register draft.now end.now) (take (length draft.now.classes) end.now.node) }
+    ensures registers { result ≡ map (node_register draft.now end.now) (take (length draft.now.classes) end.now.node) }
+    ensures size { length result ≡ length draft.now.classes }
 {
     let n = draft.classes.len();
     let mut registers = Few::new();
@@ -42,7 +43,8 @@ fn registers_of(draft: &Draft, end: &Colouring) -> Few<u8, 448>
 
 // The places of the source's variables in a draft that has its registers: those without a slot are given in its last round.
 fn places_of(draft: &Draft, end: &Colouring) -> Few<Place, 64>
-    ensures { result ≡ map (place_after draft.now end.now) (range draft.now.source.vars 0) }
+    ensures places { result ≡ map (place_after draft.now end.now) (range draft.now.source.vars 0) }
+    ensures size { length result ≡ draft.now.source.vars }
 {
     let mut places = Few::new();
     for v in 0..draft.source.vars {

@@ -35,6 +35,10 @@ unfolding range
 range_length zero j = refl
 range_length (suc n) j = ap suc (range_length n (suc j))
 
+-- as many results of a function of the place as there are places
+pub filled_length : {B : Type 0} (f : ℕ → B) (n : ℕ) → {xs : List B} → xs ≡ map f (range n 0) → length xs ≡ n
+filled_length f n e = rw (e, length-map (range n 0) f, range_length n 0)
+
 -- a list of the results of a function of the place, one more of them pushed where there is room
 pub filled_push : {B : Type 0} (m : ℕ) (f : ℕ → B) (i : ℕ) → i < m → {xs xs' : List B} {y : B} → xs ≡ map f (range i 0) → y ≡ f i → xs' ≡ take m (xs ++ y ∷ []) → xs' ≡ map f (range (i + 1) 0)
 filled_push m f i l e h g =

@@ -96,6 +96,8 @@ pub fn rewrite(draft: &Draft, token: &Token) -> Draft
     let mut next = *draft;
     next.rows = page.layout.moved();
     next.classes = page.classes;
+    // As many registers as classes, though none counts before a round colours.
+    next.registers = Few::of(&[0; 448][..page.classes.len()]);
     next.rounds = draft.rounds.saturating_add(1);
     next.slots = token.given;
     next.places = rewriting.places(next.rounds);
@@ -112,7 +114,8 @@ struct Rewriting<'a> {
 impl<'a> Rewriting<'a> {
     // The places of the source's variables, those that go out in their slots.
     fn places(&self, round: u8) -> Few<Place, 64>
-        ensures { result ≡ map (place_spilled self.now.draft.now self.now.token.now round) (range self.now.draft.now.source.vars 0) }
+        ensures places { result ≡ map (place_spilled self.now.draft.now self.now.token.now round) (range self.now.draft.now.source.vars 0) }
+        ensures size { length result ≡ self.now.draft.now.source.vars }
     {
         let mut places = Few::new();
         for v in 0..self.draft.source.vars {

@@ -1,4 +1,4 @@
-use Rattle.std.proofs.Common.{◌≡◌, ℕ, suc, ◌≤◌, ◌++◌, map, length, ap, ◌∙◌, arith}
+use Rattle.std.proofs.Common.{◌≡◌, ℕ, suc, ◌≤◌, ◌++◌, map, length, ap, ◌∙◌, arith, length-take}
 use Rattle.std.proofs.lemmas.List.{take_all}
 use Rattle.counting.specs.Counting.{range}
 use Rattle.compiling.specs.Blocks.{flat, assembled}
@@ -29,4 +29,10 @@ returns c room =
     code
     (page.classes ∙ take_all 448 cs room.classes)
     round
-    (c.places-next.ensures ∙ ap (λ (k : ℕ). map (place_spilled d t k) (range d.source.vars 0)) round)
+    (c.places-next.ensures.places ∙ ap (λ (k : ℕ). map (place_spilled d t k) (range d.source.vars 0)) round)
+
+pub invariant_of-next : goal.invariant_of-next
+invariant_of-next c =
+    let page = c.write_blocks-page.result in
+    let registers : length c.of-next.result ≡ length page.classes = rw c.of-next.ensures (simp length-take (omega (arith, page.few, c.len.ensures.count))) in
+    record { few = (c.moved-next.ensures.fits, page.few); whole = (registers, c.places-next.ensures.size) }
