@@ -22,15 +22,20 @@ impl Draft {
     pub fn of(source: Source) -> Draft
         ensures { working_of result ≡ admitted (program_of source) }
     {
-        Draft {
+        // The lists are filled where they stand: a list that is made before it is put there is copied.
+        let mut draft = Draft {
             source,
-            rows: Few::of(&source.rows[..source.count]),
-            classes: Few::of(&source.classes[..source.vars]),
+            rows: Few::new(),
+            classes: Few::new(),
             registers: Few::new(),
             rounds: 0,
             slots: 0,
-            places: Few::of(&[Place::OPEN; 64][..source.vars]),
-        }
+            places: Few::new(),
+        };
+        draft.rows.extend(&source.rows[..source.count]);
+        draft.classes.extend(&source.classes[..source.vars]);
+        draft.places.extend(&[Place::OPEN; 64][..source.vars]);
+        draft
     }
 
     // The rows of the program.
