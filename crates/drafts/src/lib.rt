@@ -22,15 +22,18 @@ impl Draft {
     pub fn of(source: Source) -> Draft
         ensures { working_of result ≡ admitted (program_of source) }
     {
-        Draft {
+        // Rows are written where they stand: a list that is made before it is put there is copied.
+        let mut draft = Draft {
             source,
-            rows: Few::of(&source.rows[..source.count]),
+            rows: Few::new(),
             classes: Few::of(&source.classes[..source.vars]),
             registers: Few::of(&[0; 64][..source.vars]),
             rounds: 0,
             slots: 0,
             places: Few::of(&[Place::OPEN; 64][..source.vars]),
-        }
+        };
+        draft.rows.extend(&source.rows[..source.count]);
+        draft
     }
 
     // The rows of the program.

@@ -85,10 +85,20 @@ impl<T: Blank, const N: usize> Few<T, N> {
         ensures { result ≡ take N xs.now }
     {
         let mut list = Few::new();
-        for x in xs {
-            list.push(*x);
-        }
+        list.extend(xs);
         list
+    }
+
+    // Adds the elements of a slice behind the others, as many as there is room for.
+    pub fn extend(&mut self, xs: &[T])
+        ensures items { self.new ≡ take N (self.old ++ xs.now) }
+        ensures fits { length self.new ≤ N }
+    {
+        // Told by its length: the list is no longer than its room.
+        let _ = self.len();
+        for x in xs {
+            self.push(*x);
+        }
     }
 
     pub fn len(&self) -> usize
