@@ -19,6 +19,7 @@ use token::Colouring;
 
 impl Draft {
     // The draft of an admitted program, before its first round.
+    #[inline(always)]
     pub fn of(source: Source) -> Draft
         ensures { working_of result ≡ admitted (program_of source) }
     {
