@@ -33,6 +33,14 @@ charged g node same v at price costs e room k =
       | inr p ↦ rw (ne_eqb at k (λ q. p (sym q)), get_or-set_other costs at k (get_or costs at 0 + price) 0 p) (omega arith)
     ])
 
+-- no cost rises by more than the highest price
+pub charged_small : (price : ℕ) (costs : List ℕ) (at : ℕ) → price ≤ 1000 → at < length costs → (k : ℕ) → get_or (set costs at (get_or costs at 0 + price)) k 0 ≤ get_or costs k 0 + 1000
+charged_small price costs at few room k =
+    elim (cases_eq k at) [
+      | inl p ↦ rw (p, get_or-set_same costs at (get_or costs at 0 + price) 0 room) (omega arith)
+      | inr p ↦ rw (get_or-set_other costs at k (get_or costs at 0 + price) 0 p) (omega arith)
+    ]
+
 -- a place whose node has no cost is charged to none
 pub spared : (g : Graph) (node : List ℕ) → g.node ≡ node → (v at price : ℕ) (costs : List ℕ) → at ≡ get_or node v v → length costs ≤ at →
     (k : ℕ) → k < length costs → get_or costs k 0 ≡ members_in g k (v ∷ []) * price + get_or costs k 0

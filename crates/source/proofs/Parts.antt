@@ -60,14 +60,26 @@ headed_none bs r e q h s f = rw (f, s) (headed_short bs h)
 
 -- ---- a row
 
-known_op : (n : ℕ) (o : Op) → Ok o ≡ op_in_source n → (ltb 12 n ≡ false) × (o ≡ op_of n)
+pub known_op : (n : ℕ) (o : Op) → Some o ≡ cond (ltb 12 n) None (Some (op_of n)) → (ltb 12 n ≡ false) × (o ≡ op_of n)
 known_op n o h = elim (cases_Bool (ltb 12 n)) [
+  | inl e ↦ (let z : Some o ≡ None = h ∙ rw e in absurd (let y : ◌≡◌ {A = ℕ} 0 1 = cc in omega arith))
+  | inr e ↦ (e, (let z : Some o ≡ Some (op_of n) = h ∙ rw e in cc))
+]
+
+pub unknown_op : (n : ℕ) → ◌≡◌ {A = Option Op} None (cond (ltb 12 n) None (Some (op_of n))) → ltb 12 n ≡ true
+unknown_op n h = elim (cases_Bool (ltb 12 n)) [
+  | inl e ↦ e
+  | inr e ↦ (let z : None ≡ Some (op_of n) = h ∙ rw e in absurd (let y : ◌≡◌ {A = ℕ} 0 1 = cc in omega arith))
+]
+
+op_read : (n : ℕ) (o : Op) → Ok o ≡ op_in_source n → (ltb 12 n ≡ false) × (o ≡ op_of n)
+op_read n o h = elim (cases_Bool (ltb 12 n)) [
   | inl e ↦ (let z : ◌≡◌ {A = Result Op UnknownOpcode} (Ok o) (Err (record { 0 = n })) = h ∙ rw e in cc)
   | inr e ↦ (e, (let z : Ok o ≡ Ok (op_of n) = h ∙ rw e in cc))
 ]
 
-unknown_op : (n : ℕ) (f : UnknownOpcode) → Err f ≡ op_in_source n → ltb 12 n ≡ true
-unknown_op n f h = elim (cases_Bool (ltb 12 n)) [
+op_refused : (n : ℕ) (f : UnknownOpcode) → Err f ≡ op_in_source n → ltb 12 n ≡ true
+op_refused n f h = elim (cases_Bool (ltb 12 n)) [
   | inl e ↦ e
   | inr e ↦ (let z : Err f ≡ Ok (op_of n) = h ∙ rw e in cc)
 ]
@@ -83,14 +95,14 @@ tests v n class i w r =
 
 pub judged_none : (v n : ℕ) (class : ℕ → ℕ) (i w m : ℕ) (f : UnknownOpcode) → m ≡ part w 0 4 → Err f ≡ op_in_source m → row_fault v n class i w ≡ Some (Opcode i)
 unfolding row_fault
-judged_none v n class i w m f e h = cond-true _ _ _ (unknown_op (part w 0 4) f (h ∙ ap op_in_source e))
+judged_none v n class i w m f e h = cond-true _ _ _ (op_refused (part w 0 4) f (h ∙ ap op_in_source e))
 
 -- the first fault of a row is that of its tests, and the row is that of its word
 pub judged_by : (v n : ℕ) (class : ℕ → ℕ) (i w m : ℕ) (o : Op) (r : Row) → m ≡ part w 0 4 → Ok o ≡ op_in_source m → r ≡ row_by o class w →
     (row_fault v n class i w ≡ tests v n class i w r) × (r ≡ row_of class w)
 unfolding row_fault
 judged_by v n class i w m o r e h b =
-    let k = known_op (part w 0 4) o (h ∙ ap op_in_source e) in
+    let k = op_read (part w 0 4) o (h ∙ ap op_in_source e) in
     let f : r ≡ row_of class w = b ∙ ap (λ (x : Op). row_by x class w) k.1 in
     (cond-false _ _ _ k.0 ∙ ap (tests v n class i w) (sym f), f)
 
@@ -118,7 +130,7 @@ pub classes_fill : (bs : List ℕ) → ((k : ℕ) → k < vars_in bs → class_i
 classes_fill bs below ne = classes_good bs below ∙ rw (ne_eqb (fill_in bs) 0 ne)
 
 -- an array of classes, zero past the last variable
-class_list : (bs cs : List ℕ) → ((k : ℕ) → k < vars_in bs → get_or cs k 0 ≡ class_in bs k) → ((k : ℕ) → vars_in bs ≤ k → get_or cs k 0 ≡ 0) → (v : ℕ) → get_or cs v 0 ≡ class_of bs v
+pub class_list : (bs cs : List ℕ) → ((k : ℕ) → k < vars_in bs → get_or cs k 0 ≡ class_in bs k) → ((k : ℕ) → vars_in bs ≤ k → get_or cs k 0 ≡ 0) → (v : ℕ) → get_or cs v 0 ≡ class_of bs v
 unfolding classes_in
 class_list bs cs inside past v =
     elim (cases_lt v (vars_in bs)) [
