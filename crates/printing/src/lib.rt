@@ -13,6 +13,9 @@ use std::alloc::AllocError;
 // The text of a row: eight items of at most five digits, each behind a comma.
 const ROW_ROOM: usize = 48;
 
+// The text of a place: two numbers of at most five digits, and three letters.
+const PLACE_ROOM: usize = 13;
+
 // What is told as text.
 pub trait Told: Copy {
     ghost text: { Self → List ℕ };
@@ -89,12 +92,13 @@ impl Told for Place {
     ghost text = { place_text };
 
     fn tell(self, out: &mut Vec<u8>) -> Result<(), AllocError> {
-        out.push(home_letter(self.home))?;
-        write_number(self.home.number() as u32, out)?;
-        out.push(b'@')?;
-        write_number(self.round as u32, out)?;
-        out.push(mark_letter(self.hoped))?;
-        Ok(())
+        let mut text = [0; PLACE_ROOM];
+        text[PLACE_ROOM - 1] = mark_letter(self.hoped);
+        let round = put_item(Some(self.round as u16), &mut text, PLACE_ROOM - 1);
+        text[round - 1] = b'@';
+        let number = put_item(Some(self.home.number() as u16), &mut text, round - 1);
+        text[number - 1] = home_letter(self.home);
+        out.extend_from_slice(&text[number - 1..])
     }
 }
 
