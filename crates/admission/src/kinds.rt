@@ -62,8 +62,6 @@ impl<'a> FactKind for Reach<'a> {
 
     ghost lawful = { λ k. reach_lawful k.graph.rows.now };
 
-    type Ways = Ways;
-
     fn rows(&self) -> usize {
         self.graph.len()
     }
@@ -105,8 +103,6 @@ impl<'a> FactKind for Initialisation<'a> {
     ghost flow = { λ k. initialisation k.vars k.graph.rows.now };
 
     ghost lawful = { λ k. initialisation_lawful k.vars k.graph.rows.now };
-
-    type Ways = Ways;
 
     fn rows(&self) -> usize {
         self.graph.len()

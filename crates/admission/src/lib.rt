@@ -120,3 +120,30 @@ pub fn admitted(
     judged?;
     Ok(source)
 }
+
+#[cfg(test)]
+mod tests {
+    use crate::graph::Graph;
+    use crate::kinds::Reach;
+    use facts::{FactKind, WideFactKind};
+    use rows::{Op, Row};
+
+    #[test]
+    fn the_ways_of_a_row_that_branches(rt: HostRuntime) {
+        let branch = Row {
+            op: Op::Less,
+            target: 2,
+            ..Row::END
+        };
+        let rows = [branch, Row::END, Row::END];
+        let reach = Reach {
+            graph: Graph { rows: &rows },
+        };
+        let mut ways = FactKind::ways(&reach, 0);
+        assert_eq!(rt; ways.next(), Some(2));
+        assert_eq!(rt; ways.next(), Some(1));
+        assert_eq!(rt; ways.next(), None);
+        assert_eq!(rt; FactKind::ways(&reach, 1).next(), None);
+        assert_eq!(rt; WideFactKind::ways(&reach, 0).count(), 2);
+    }
+}

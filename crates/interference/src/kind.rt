@@ -19,8 +19,6 @@ impl<'a> FactKind for Liveness<'a> {
 
     ghost lawful = { λ k. liveness_lawful k.graph.rows.now };
 
-    type Ways = Ways;
-
     fn rows(&self) -> usize {
         self.graph.len()
     }

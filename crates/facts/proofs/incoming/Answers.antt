@@ -9,7 +9,7 @@ use Rattle.facts.proofs.incoming.Goals as goal
 
 pub returns-then-backward : goal.returns-then-backward
 returns-then-backward g c = λ told.
-    let f = g.K.FactKind.flow c.args.kind.now in
+    let f = g.K.WideFactKind.flow c.args.kind.now in
     let facts = c.args.facts.now in
     let i = c.args.i in
     let held : take c.min.result facts ≡ take (rows f) facts =
@@ -21,7 +21,7 @@ returns-then-backward g c = λ told.
 pub returns : goal.returns
 unfolding joined
 returns g c = λ told.
-    let f = g.K.FactKind.flow c.args.kind.now in
+    let f = g.K.WideFactKind.flow c.args.kind.now in
     let facts = c.args.facts.now in
     let comers = c.args.comers.now in
     let i = c.args.i in

@@ -7,7 +7,7 @@ use Rattle.facts.proofs.list_comers.Goals as goal
 
 pub returns : goal.returns
 returns g c =
-    let f = g.K.FactKind.flow c.args.kind.now in
+    let f = g.K.WideFactKind.flow c.args.kind.now in
     let comers = c.args.comers.now in
     let part = c.list_all.new.sets in
     let rest = drop c.rows-n.result comers in

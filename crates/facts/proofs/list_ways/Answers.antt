@@ -18,6 +18,6 @@ pub returns : goal.returns
 returns g c =
     let steps = g.K.Ways.Iterator.next_gives in
     let walked = subst (λ s. Yields steps s c.loop-i.yielded c.loop-i.i-iterator) c.into_iter-i-iterator.ensures.into_iter_gives c.loop-i.yielded_by in
-    let all = drained steps c.ways-i-items.result (get_or (g.K.FactKind.flow c.args.kind.now).next c.args.j []) c.ways-i-items.ensures.rows c.loop-i.yielded
+    let all = drained steps c.ways-i-items.result (get_or (g.K.WideFactKind.flow c.args.kind.now).next c.args.j []) c.ways-i-items.ensures.rows c.loop-i.yielded
     (c.next.new.self, (c.loop-i.i-iterator, walked, c.in-None.ensures.steps)) in
     subst (λ (is : List ℕ). Listing c.args.sets.now c.loop-i.sets c.args.j is) all c.loop-i.invariant

@@ -7,7 +7,7 @@ use Rattle.facts.proofs.solve.Goals as goal
 pub returns : goal.returns
 returns g c =
     let k = c.args.kind.now in
-    let f = g.K.FactKind.flow k in
+    let f = g.K.WideFactKind.flow k in
     let facts = c.args.facts.now in
     let part = c.settle.new.facts in
     let rest = drop c.rows-n.result facts in
@@ -18,7 +18,7 @@ returns g c =
       answer = record {
         facts = is;
         past = drop_at part rest (rows f) long ∙ ap (λ (n : ℕ). drop n facts) c.rows-n.ensures;
-        least = subst (λ (xs : List ℕ). Least f (at f xs)) (sym is) (solved_least f (g.K.FactKind.lawful k));
+        least = subst (λ (xs : List ℕ). Least f (at f xs)) (sym is) (solved_least f (g.K.WideFactKind.lawful k));
         tells = c.list_comers.ensures.tells;
         unlent = c.list_comers.ensures.unlent;
         untouched = c.list_comers.ensures.untouched;

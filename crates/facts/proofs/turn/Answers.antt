@@ -4,7 +4,7 @@ use Rattle.facts.proofs.turn.Goals as goal
 
 pub returns-then-backward : goal.returns-then-backward
 returns-then-backward g c =
-    ap (λ (n : ℕ). n - 1 - c.args.k) c.rows.ensures ∙ sym (turn_backward (g.K.FactKind.flow c.args.kind.now) c.args.k (sym c.if-backward.ensures) c.requires)
+    ap (λ (n : ℕ). n - 1 - c.args.k) c.rows.ensures ∙ sym (turn_backward (g.K.WideFactKind.flow c.args.kind.now) c.args.k (sym c.if-backward.ensures) c.requires)
 
 pub returns : goal.returns
-returns g c = sym (turn_forward (g.K.FactKind.flow c.args.kind.now) c.args.k (sym c.if-backward.ensures) c.requires)
+returns g c = sym (turn_forward (g.K.WideFactKind.flow c.args.kind.now) c.args.k (sym c.if-backward.ensures) c.requires)

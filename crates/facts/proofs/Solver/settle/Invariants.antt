@@ -4,9 +4,9 @@ use Rattle.facts.proofs.Sweeping.{Going, total}
 use Rattle.facts.proofs.Solver.settle.Given as goal
 
 abbrev pub invariant-loop : goal.invariant-loop
-invariant-loop g l = let f = g.K.FactKind.flow l.self.kind.now in Going f (g.K.FactKind.lawful l.self.kind.now) (feeders f) (solved f) l.facts
+invariant-loop g l = let f = g.K.WideFactKind.flow l.self.kind.now in Going f (g.K.WideFactKind.lawful l.self.kind.now) (feeders f) (solved f) l.facts
 
 abbrev pub decreases-loop : goal.decreases-loop
 decreases-loop g l =
-    let f = g.K.FactKind.flow l.self.kind.now in
-    f.height * rows f - total f (g.K.FactKind.lawful l.self.kind.now) (feeders f) l.facts
+    let f = g.K.WideFactKind.flow l.self.kind.now in
+    f.height * rows f - total f (g.K.WideFactKind.lawful l.self.kind.now) (feeders f) l.facts

@@ -4,5 +4,5 @@ use Rattle.facts.proofs.Solver.sweep.Given as goal
 
 abbrev pub invariant-loop-k : goal.invariant-loop-k
 invariant-loop-k g l =
-    let f = g.K.FactKind.flow l.self.kind.now in
+    let f = g.K.WideFactKind.flow l.self.kind.now in
     sweep f (feeders f) (drop l.k (turns f)) l.facts l.altered ≡ sweep f (feeders f) (turns f) l.initial.facts false

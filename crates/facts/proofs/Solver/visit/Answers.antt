@@ -5,7 +5,7 @@ use Rattle.facts.proofs.Solver.visit.Goals as goal
 
 pub returns : goal.returns
 returns g c =
-    let f = g.K.FactKind.flow c.args.self.now.kind.now in
+    let f = g.K.WideFactKind.flow c.args.self.now.kind.now in
     let facts = c.args.facts.now in
     let i = c.args.i in
     let all : length facts ≤ rows f = omega (arith, c.requires.rows) in
